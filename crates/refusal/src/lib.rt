@@ -51,7 +51,10 @@ impl Refusal {
     pub fn at(self, place: usize) -> Fault
         ensures { λ r. ⌜ r ≡ record { refusal = self; place = place } ⌝ }
     {
-        Fault { refusal: self, place }
+        Fault {
+            refusal: self,
+            place,
+        }
     }
 }
 

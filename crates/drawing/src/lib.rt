@@ -1,0 +1,3 @@
+//! Reads a drawing's text: its circuit, or why it is refused and where.
+pub mod link;
+pub mod reading;

@@ -1,0 +1,4 @@
+//! Items and expressions of a field, with parts told by name.
+pub mod expression;
+pub mod item;
+pub mod smallest;

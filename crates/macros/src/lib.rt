@@ -1,0 +1,4 @@
+//! Macros: their uses in texts, the order in which they build on each other, and texts with all uses put in.
+pub mod expand;
+pub mod table;
+pub mod uses;

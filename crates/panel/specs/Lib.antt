@@ -1,0 +1,4 @@
+pub mod Rings
+pub mod Meant
+pub mod Pressing
+pub mod Stands
