@@ -15,7 +15,7 @@ use word::value::Word;
 impl Board {
     /// A board newly made of a circuit: at cycle 0 with its first words, every held word 0, and no notes.
     fn of_circuit(heap: Global, circuit: Circuit) -> Result<Board, AllocError> {
-        let count = circuit.parts.len();
+        let count = circuit.bodies.len();
         let words = Vec::from_slice(heap, circuit.first.as_slice())?;
         let held = vec![in heap; Word::zero(); count]?;
         let mut shown = vec![in heap; Word::zero(); count]?;
@@ -44,7 +44,7 @@ impl Board {
         let drawing = read(heap, text)?;
         let end = drawing.end;
         let board = Board::of_circuit(heap, drawing.circuit)?;
-        let count = board.circuit.parts.len();
+        let count = board.circuit.bodies.len();
         *self = board;
         Ok((count, end))
     }

@@ -60,22 +60,37 @@ fn deed_of(operation: Word, address: Word, data: Word, words: Span) -> Option<De
     }
 }
 
-/// What a part is about to do, and what is to be noted of it; or its address is past its last word.
-fn plan_of(circuit: &Circuit, body: Body, shown: &[Word]) -> Result<Plan, Refusal> {
-    match body {
+/// What a memory is about to do, and what is to be noted of it; or its address is past its last word.
+fn memory_plan(
+    circuit: &Circuit,
+    address: Span,
+    data: Span,
+    operation: Span,
+    words: Span,
+    shown: &[Word],
+) -> Result<Plan, Refusal> {
+    let address = circuit.expression(address, shown);
+    let data = circuit.expression(data, shown);
+    let operation = circuit.expression(operation, shown);
+    let noting = Noting::of_operation(operation);
+    match deed_of(operation, address, data, words) {
+        Some(deed) => Ok(Plan {
+            deed,
+            address,
+            noting,
+        }),
+        None => Err(Refusal::AddressPast),
+    }
+}
+
+/// What the part of a rank is about to do, and what is to be noted of it.
+fn plan_of(circuit: &Circuit, rank: usize, shown: &[Word]) -> Result<Plan, Refusal> {
+    if rank >= circuit.bodies.len() {
+        return Ok(Plan::rest());
+    }
+    match circuit.bodies[rank] {
         Body::Memory(address, data, operation, words) => {
-            let address = circuit.expression(address, shown);
-            let data = circuit.expression(data, shown);
-            let operation = circuit.expression(operation, shown);
-            let noting = Noting::of_operation(operation);
-            match deed_of(operation, address, data, words) {
-                Some(deed) => Ok(Plan {
-                    deed,
-                    address,
-                    noting,
-                }),
-                None => Err(Refusal::AddressPast),
-            }
+            memory_plan(circuit, address, data, operation, words, shown)
         }
         Body::Alu(_, _, _) => Ok(Plan::rest()),
         Body::Selector(_, _) => Ok(Plan::rest()),
@@ -89,18 +104,18 @@ pub fn plan_all(
     deeds: &mut [Deed],
     noted: &mut [Noted],
 ) -> Result<(), Fault> {
-    for rank in 0..circuit.parts.len() {
-        if rank < deeds.len() && rank < noted.len() {
-            match plan_of(circuit, circuit.parts[rank].body, shown) {
-                Ok(plan) => {
-                    deeds[rank] = plan.deed;
+    for rank in 0..deeds.len() {
+        match plan_of(circuit, rank, shown) {
+            Ok(plan) => {
+                deeds[rank] = plan.deed;
+                if rank < noted.len() {
                     noted[rank] = Noted {
                         address: plan.address,
                         noting: plan.noting,
                     };
                 }
-                Err(refusal) => return Err(refusal.at(rank)),
             }
+            Err(refusal) => return Err(refusal.at(rank)),
         }
     }
     Ok(())
@@ -108,8 +123,8 @@ pub fn plan_all(
 
 /// Refuses the first selector that is astray.
 pub fn check_selectors(circuit: &Circuit, shown: &[Word]) -> Result<(), Fault> {
-    for rank in 0..circuit.parts.len() {
-        if circuit.is_astray(circuit.parts[rank].body, shown) {
+    for rank in 0..circuit.bodies.len() {
+        if circuit.is_astray(rank, shown) {
             return Err(Refusal::Astray.at(rank));
         }
     }

@@ -116,9 +116,9 @@ impl Board {
 
     /// How long the name and the value of the part of a rank are in a line.
     fn shown_length_at(&self, rank: usize) -> usize {
-        if rank < self.circuit.parts.len() {
-            let part = self.circuit.parts[rank];
-            return shown_length(&part.name, word_at(self.shown.as_slice(), rank));
+        if rank < self.circuit.names.len() {
+            let name = self.circuit.names[rank];
+            return shown_length(&name, word_at(self.shown.as_slice(), rank));
         }
         0
     }
@@ -128,9 +128,9 @@ impl Board {
         let mut length: usize = 0;
         for rank in 0..self.notes.len() {
             let note = self.notes[rank];
-            if !is_silent(note) && rank < self.circuit.parts.len() {
-                let part = self.circuit.parts[rank];
-                length = length.saturating_add(note_length(&part.name, note));
+            if !is_silent(note) && rank < self.circuit.names.len() {
+                let name = self.circuit.names[rank];
+                length = length.saturating_add(note_length(&name, note));
             }
         }
         length
@@ -150,9 +150,9 @@ impl Board {
 
     /// Writes the name and the value of the part of a rank.
     fn write_shown(&self, out: &mut [u8], at: usize, rank: usize) -> usize {
-        if rank < self.circuit.parts.len() {
-            let part = self.circuit.parts[rank];
-            return put_shown(out, at, &part.name, word_at(self.shown.as_slice(), rank));
+        if rank < self.circuit.names.len() {
+            let name = self.circuit.names[rank];
+            return put_shown(out, at, &name, word_at(self.shown.as_slice(), rank));
         }
         at
     }
@@ -162,9 +162,9 @@ impl Board {
         let mut end = 0;
         for rank in 0..self.notes.len() {
             let note = self.notes[rank];
-            if !is_silent(note) && rank < self.circuit.parts.len() {
-                let part = self.circuit.parts[rank];
-                end = put_note(out, end, &part.name, note);
+            if !is_silent(note) && rank < self.circuit.names.len() {
+                let name = self.circuit.names[rank];
+                end = put_note(out, end, &name, note);
             }
         }
         end
@@ -186,9 +186,9 @@ impl Board {
 
     /// The name of the part of a rank.
     pub fn name_at(&self, rank: usize) -> Option<Name> {
-        if rank < self.circuit.parts.len() {
-            let part = self.circuit.parts[rank];
-            return Some(part.name);
+        if rank < self.circuit.names.len() {
+            let name = self.circuit.names[rank];
+            return Some(name);
         }
         None
     }

@@ -1,5 +1,8 @@
 //! Runs many inputs of asimrun one after another. Standard input holds the cases: for each a line with its name and the
 //! length of its input, the bytes of the input, and a line end. For each its name is printed, and what asimrun prints.
+ghost use Prim.Native.Nat.{ℕ, _<_};
+ghost use lib.ListN.{length};
+ghost use Rattle.std.specs.Options.{Cases as BySome};
 use bench::transcript::Bench;
 use bench::transcript::LONGEST_LINE;
 use bench::transcript::MOST_LINES;
@@ -59,18 +62,14 @@ fn first_case(text: &[u8]) -> Option<Case<'_>> {
 }
 
 /// Prints the name of a case and all lines of its run.
-fn run_case<W: Write>(
-    rt: &LibcRuntime,
-    case: Case<'_>,
-    line: &mut [u8],
-    out: &mut W,
-) -> Result<(), AnyError> {
+fn run_case<W: Write>(rt: &LibcRuntime, case: Case<'_>, out: &mut W) -> Result<(), AnyError> {
     out.write_all(case.name)?;
     out.write_all(b"\n")?;
+    let mut line = vec![in rt.alloc(); 0u8; LONGEST_LINE]?;
     let mut bench = Bench::open(rt.alloc(), case.input)?;
     for _ in 0..MOST_LINES {
-        match bench.next(line) {
-            Ok(Some(length)) => out.write_all(&line[0..length.min(line.len())])?,
+        match bench.next(line.as_mut_slice()) {
+            Ok(Some(length)) => out.write_all(&line.as_slice()[0..length.min(LONGEST_LINE)])?,
             Ok(None) => break,
             Err(_) => return Err("a line is longer than its buffer".into()),
         }
@@ -81,13 +80,12 @@ fn run_case<W: Write>(
 fn run(rt: &LibcRuntime) -> Result<(), AnyError> {
     let mut text = Vec::new(rt.alloc());
     rt.stdin().read_to_end(&mut text)?;
-    let mut line = vec![in rt.alloc(); 0u8; LONGEST_LINE]?;
     let mut out = BufWriter::new(rt.stdout());
     let mut later = text.as_slice();
     for _ in 0..MOST_CASES {
         match first_case(later) {
             Some(case) => {
-                run_case(rt, case, line.as_mut_slice(), &mut out)?;
+                run_case(rt, case, &mut out)?;
                 later = case.later;
             }
             None => break,

@@ -1,5 +1,4 @@
 //! What a circuit is made of.
-use scan::names::Name;
 use word::range::Range;
 use word::value::Word;
 use word::width::Width;
@@ -38,11 +37,4 @@ pub struct Listed {
     pub rank: usize,
     /// Whether the part's value stands in the trace.
     pub traced: bool,
-}
-
-/// The part at one rank.
-#[derive(Clone, Copy)]
-pub struct Part {
-    pub name: Name,
-    pub body: Body,
 }

@@ -63,29 +63,43 @@ impl Circuit {
         marked(self.cases.as_slice(), cases).get(number).copied()
     }
 
-    /// Whether a part is a selector that has no case of the number that its select field gives.
-    pub fn is_astray(&self, body: Body, shown: &[Word]) -> bool {
-        match body {
+    /// Whether the part of a rank is a selector that has no case of the number that its select field gives.
+    pub fn is_astray(&self, rank: usize, shown: &[Word]) -> bool {
+        if rank >= self.bodies.len() {
+            return false;
+        }
+        match self.bodies[rank] {
             Body::Selector(select, cases) => self.case_at(select, cases, shown).is_none(),
             Body::Alu(_, _, _) => false,
             Body::Memory(_, _, _, _) => false,
         }
     }
 
-    /// What a part shows by its equation, while a memory holds `held`.
-    fn equation(&self, body: Body, held: Word, shown: &[Word]) -> Word {
-        match body {
-            Body::Memory(_, _, _, _) => held,
-            Body::Alu(function, left, right) => {
-                let function = self.expression(function, shown);
-                let left = self.expression(left, shown);
-                let right = self.expression(right, shown);
-                alu(function, left, right)
-            }
-            Body::Selector(select, cases) => match self.case_at(select, cases, shown) {
-                Some(case) => self.expression(case, shown),
-                None => Word::zero(),
-            },
+    /// What an ALU shows.
+    fn alu_value(&self, function: Span, left: Span, right: Span, shown: &[Word]) -> Word {
+        let function = self.expression(function, shown);
+        let left = self.expression(left, shown);
+        let right = self.expression(right, shown);
+        alu(function, left, right)
+    }
+
+    /// What a selector shows: 0 if it has no such case.
+    fn selector_value(&self, select: Span, cases: Span, shown: &[Word]) -> Word {
+        match self.case_at(select, cases, shown) {
+            Some(case) => self.expression(case, shown),
+            None => Word::zero(),
+        }
+    }
+
+    /// What the part of a rank shows by its equation. A memory shows the word that it holds.
+    fn equation(&self, rank: usize, held: &[Word], shown: &[Word]) -> Word {
+        if rank >= self.bodies.len() {
+            return Word::zero();
+        }
+        match self.bodies[rank] {
+            Body::Memory(_, _, _, _) => word_at(held, rank),
+            Body::Alu(function, left, right) => self.alu_value(function, left, right, shown),
+            Body::Selector(select, cases) => self.selector_value(select, cases, shown),
         }
     }
 
@@ -98,9 +112,9 @@ impl Circuit {
 
     /// Works out what the part of one rank shows.
     fn refresh(&self, rank: usize, held: &[Word], shown: &mut [Word]) {
-        if rank < self.parts.len() && rank < shown.len() {
-            let body = self.parts[rank].body;
-            shown[rank] = self.equation(body, word_at(held, rank), shown);
+        let word = self.equation(rank, held, shown);
+        if rank < shown.len() {
+            shown[rank] = word;
         }
     }
 }

@@ -1,10 +1,11 @@
 //! The circuit in flat lists.
 ghost use mathlib.Core.Path.{_≡_};
 ghost use Rattle.circuit.specs.Rows.{row};
+use crate::parts::Body;
 use crate::parts::Item;
 use crate::parts::Listed;
-use crate::parts::Part;
 use crate::parts::Span;
+use scan::names::Name;
 use std::alloc::Global;
 use word::value::Word;
 
@@ -13,8 +14,10 @@ use word::value::Word;
 pub struct Circuit {
     /// The names of the list, in its order.
     pub listed: Vec<Listed>,
-    /// The parts by rank.
-    pub parts: Vec<Part>,
+    /// By rank the names of the parts.
+    pub names: Vec<Name>,
+    /// By rank what the parts are.
+    pub bodies: Vec<Body>,
     /// The items of all expressions.
     pub items: Vec<Item<usize>>,
     /// The cases of all selectors.
@@ -30,7 +33,8 @@ impl Circuit {
     pub fn empty(heap: Global) -> Circuit {
         Circuit {
             listed: Vec::new(heap),
-            parts: Vec::new(heap),
+            names: Vec::new(heap),
+            bodies: Vec::new(heap),
             items: Vec::new(heap),
             cases: Vec::new(heap),
             first: Vec::new(heap),

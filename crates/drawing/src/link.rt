@@ -2,7 +2,6 @@
 use circuit::parts::Body;
 use circuit::parts::Item;
 use circuit::parts::Listed;
-use circuit::parts::Part;
 use circuit::parts::Span;
 use circuit::wiring::marked;
 use draft::drafts::Drafted;
@@ -83,15 +82,22 @@ pub fn ranked_items(
     Ok(all)
 }
 
-/// The parts without their places.
-pub fn placeless(heap: Global, parts: &[Drafted]) -> Result<Vec<Part>, AllocError> {
+/// The names of the parts.
+pub fn names_of(heap: Global, parts: &[Drafted]) -> Result<Vec<Name>, AllocError> {
     let mut all = Vec::new(heap);
     for rank in 0..parts.len() {
         let part = parts[rank];
-        all.push(Part {
-            name: part.name,
-            body: part.body,
-        })?;
+        all.push(part.name)?;
+    }
+    Ok(all)
+}
+
+/// What the parts are.
+pub fn bodies_of(heap: Global, parts: &[Drafted]) -> Result<Vec<Body>, AllocError> {
+    let mut all = Vec::new(heap);
+    for rank in 0..parts.len() {
+        let part = parts[rank];
+        all.push(part.body)?;
     }
     Ok(all)
 }

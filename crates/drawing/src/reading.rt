@@ -1,9 +1,10 @@
 //! The verdict on a drawing's text.
+use crate::link::bodies_of;
 use crate::link::check_listed;
 use crate::link::check_parts;
 use crate::link::check_references;
 use crate::link::evaluation_order;
-use crate::link::placeless;
+use crate::link::names_of;
 use crate::link::ranked_items;
 use crate::link::ranked_list;
 use circuit::wiring::Circuit;
@@ -79,10 +80,12 @@ fn link(heap: Global, draft: Draft<'_>, listed: &[Entry]) -> Result<Circuit, Fai
         draft.cases.as_slice(),
     )?;
     let listed = ranked_list(heap, listed, parts.as_slice())?;
-    let parts = placeless(heap, parts.as_slice())?;
+    let names = names_of(heap, parts.as_slice())?;
+    let bodies = bodies_of(heap, parts.as_slice())?;
     Ok(Circuit {
         listed,
-        parts,
+        names,
+        bodies,
         items,
         cases: draft.cases,
         first: draft.first,
