@@ -121,13 +121,12 @@ pub fn sections_of<'w, 't>(words: &'w [TextWord<'t>], end: usize) -> Sections<'w
     }
 }
 
-/// Where the part ends that begins at `from`: before the next part letter.
+/// Where the part ends that begins at `from`: before the next part letter, or at the end of the row.
 pub fn part_end(words: &[TextWord<'_>], from: usize) -> usize
-    requires { ⌜ from < length (now words) ⌝ }
-    ensures after { λ r. ⌜ from < r ⌝ }
+    ensures after { λ r. ⌜ (from < length (now (words .entry)) → from < r) ⌝ }
     ensures within { λ r. ⌜ r ≤ length (now (words .entry)) ⌝ }
 {
-    for i in from + 1..words.len() {
+    for i in from.saturating_add(1)..words.len() {
         if is_part_letter(words[i].text) {
             return i;
         }

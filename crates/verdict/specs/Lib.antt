@@ -1,0 +1,16 @@
+pub mod Letters
+pub mod Items
+pub mod Macros
+pub mod Parts
+pub mod Limits
+pub mod Sections
+pub mod Circles
+pub mod Circuit
+pub mod Verdict
+pub mod Lines
+pub mod Blanks
+pub mod Written
+pub mod Listing
+pub mod Sound
+pub mod Values
+pub mod Bench
