@@ -7,6 +7,8 @@ use circuit::wiring::marked;
 use draft::drafts::Drafted;
 use draft::drafts::DraftedNamed;
 use draft::drafts::Reference;
+use entries::Entry;
+use entries::EntryNamed;
 use graph::OrderFault;
 use links::LinksGraph;
 use links::arcs::Links;
@@ -15,8 +17,6 @@ use refusal::kinds::Failure;
 use refusal::kinds::Fault;
 use refusal::kinds::Refusal;
 use scan::names::Name;
-use sections::entries::Entry;
-use sections::entries::EntryNamed;
 use std::alloc::AllocError;
 use std::alloc::Global;
 

@@ -1,3 +1,2 @@
-//! The sections of a drawing's text, and what its macros and its list say.
-pub mod entries;
+//! The sections of a drawing's text: macros, list and parts.
 pub mod rows;

@@ -1,4 +1,4 @@
-//! The sections of a text: macros, list and parts.
+//! Rows of words, and what follows them.
 ghost use mathlib.Core.Path.{_≡_};
 ghost use Prim.Native.Nat.{ℕ, _<_, _≤_};
 ghost use lib.ListN.{length};

@@ -3,7 +3,6 @@ ghost use mathlib.Core.Path.{_≡_};
 ghost use Prim.Native.Nat.{_<_};
 ghost use lib.ListN.{length};
 ghost use Rattle.scan.specs.NameBytes.{name-bytes};
-use crate::rows::is_part_letter;
 use macros::table::Macros;
 use macros::uses::Macro;
 use macros::uses::MacroNamed;
@@ -16,6 +15,7 @@ use refusal::kinds::Fault;
 use refusal::kinds::Refusal;
 use scan::names::Name;
 use scan::reader::TextWord;
+use sections::rows::is_part_letter;
 use std::alloc::Global;
 
 /// A listed name, the place of its word, and whether a star marks it as traced.
