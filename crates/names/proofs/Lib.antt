@@ -1,0 +1,5 @@
+pub mod Finding
+pub mod Placing
+pub mod Sorting
+pub mod Judging
+pub mod Meeting
