@@ -1,4 +1,10 @@
 //! Of all that is wrong in one word, the refusal of the smallest number.
+ghost use mathlib.Core.Path.{_≡_};
+ghost use Prim.Native.Nat.{ℕ, min};
+ghost use Rattle.std.specs.declared.option.Option.the-variants.{Some, None};
+ghost use Rattle.numbers.specs.Judged.{both};
+ghost use Rattle.numbers.specs.Answers.{judgedBy, Placed};
+ghost use Rattle.items.specs.Least.{faultNumber, lesser, paired, leastMet, withFault, refusedBy};
 use refusal::kinds::Fault;
 
 /// The fault of the smallest number among those met.
@@ -8,7 +14,10 @@ pub struct Smallest {
 }
 
 /// The one of two faults that has the smaller number; the first if they have the same.
-pub fn smaller(one: Fault, other: Fault) -> Fault {
+pub fn smaller(one: Fault, other: Fault) -> Fault
+    ensures which { λ r. ⌜ r ≡ lesser one other ⌝ }
+    ensures least { λ r. ⌜ faultNumber r ≡ min (faultNumber one) (faultNumber other) ⌝ }
+{
     if other.refusal.number() < one.refusal.number() {
         other
     } else {
@@ -20,7 +29,11 @@ pub fn smaller(one: Fault, other: Fault) -> Fault {
 pub fn both<X: Copy, Y: Copy>(
     one: Result<X, Fault>,
     other: Result<Y, Fault>,
-) -> Result<(X, Y), Fault> {
+) -> Result<(X, Y), Fault>
+    ensures value { λ r. ⌜ r ≡ paired one other ⌝ }
+    ensures judged { λ r. ⌜ judgedBy (λ p. p) r ≡ both (judgedBy (λ x. x) one) (judgedBy (λ y. y) other) ⌝ }
+    ensures placed { λ r. ⌜ ((place : ℕ) → Placed place one → Placed place other → Placed place r) ⌝ }
+{
     match one {
         Ok(x) => match other {
             Ok(y) => Ok((x, y)),
@@ -35,12 +48,16 @@ pub fn both<X: Copy, Y: Copy>(
 
 impl Smallest {
     /// Nothing is met yet.
-    pub fn new() -> Smallest {
+    pub fn new() -> Smallest
+        ensures { λ r. ⌜ leastMet r ≡ None ⌝ }
+    {
         Smallest { met: None }
     }
 
     /// One fault more.
-    pub fn meet(&mut self, fault: Fault) {
+    pub fn meet(&mut self, fault: Fault)
+        ensures { λ _. ⌜ leastMet (now (self .exit)) ≡ Some (withFault (leastMet (now (self .entry))) fault) ⌝ }
+    {
         self.met = match self.met {
             Some(before) => Some(smaller(before, fault)),
             None => Some(fault),
@@ -48,7 +65,9 @@ impl Smallest {
     }
 
     /// The smallest fault as a refusal.
-    pub fn answer(self) -> Result<(), Fault> {
+    pub fn answer(self) -> Result<(), Fault>
+        ensures { λ r. ⌜ r ≡ refusedBy (leastMet self) ⌝ }
+    {
         match self.met {
             Some(fault) => Err(fault),
             None => Ok(()),

@@ -1,0 +1,5 @@
+pub mod Marks
+pub mod Pairs
+pub mod Tallies
+pub mod Turns
+pub mod Counts
