@@ -1,0 +1,4 @@
+pub mod Nexts
+pub mod Faults
+pub mod TextWords
+pub mod Walks
