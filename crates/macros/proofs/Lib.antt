@@ -1,0 +1,14 @@
+pub mod Arranging
+pub mod Depth
+pub mod Entries
+pub mod Fields
+pub mod Handing
+pub mod Judged
+pub mod Known
+pub mod Linking
+pub mod Making
+pub mod Picking
+pub mod Runs
+pub mod Same
+pub mod Standing
+pub mod Writing
