@@ -54,8 +54,8 @@ fn arranged<'t>(
 }
 
 impl<'t> Macros<'t> {
-    /// The macros that a drawing defines: refused at the 65th, if there are so many; or if one uses an unknown one, and then
-    /// if some use each other in a circle, each time at the least macro concerned.
+    /// The macros that a drawing defines: refused if one uses an unknown one, or if some use each other in a circle, each
+    /// time at the least macro concerned.
     pub fn new(heap: Global, defined: &[Macro<'t>]) -> Result<Macros<'t>, Failure>
         ensures { λ r. ⌜ Made (now (defined .entry)) r ⌝ }
     {
