@@ -1,4 +1,6 @@
 //! Runs a drawing with its run sheet, both from standard input, and prints the trace.
+#![tactic(auto)]
+
 use anyhow::anyhow;
 use bench::transcript::{Bench, LONGEST_INPUT, LONGEST_LINE, MOST_LINES};
 use std::io::{BufWriter, Read, Write};

@@ -1,5 +1,7 @@
 //! Runs many inputs of asimrun one after another. Standard input holds the cases: for each a line with its name and the
 //! length of its input, the bytes of the input, and a line end. For each its name is printed, and what asimrun prints.
+#![tactic(auto)]
+
 ghost use Rattle.std.specs.Prelude.{ℕ, ◌<◌, length, IfSome};
 
 use anyhow::anyhow;

@@ -1,4 +1,6 @@
 //! Devices: ports that give words and take words, and devices made of other devices.
+#![tactic(auto)]
+
 ghost use Rattle.std.specs.Prelude.{◌≡◌, length};
 ghost use Rattle.device.specs.Meaning.{Meaning, gave, took};
 ghost use Rattle.device.specs.Answers.{offered, admitted, valued};

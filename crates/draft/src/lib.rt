@@ -1,4 +1,6 @@
 //! What a drawing's text gives: the names of its list, and its parts in text order, telling each other by name.
+#![tactic(auto)]
+
 ghost use Rattle.std.specs.Prelude.{◌≡◌};
 ghost use Rattle.scan.specs.NameBytes.{name_bytes};
 ghost use Rattle.draft.specs.Drafts.{Blank};

@@ -1,4 +1,6 @@
 //! The macros and the list of a drawing.
+#![tactic(auto)]
+
 ghost use Rattle.std.specs.Prelude.{◌≡◌, ◌<◌, length};
 ghost use Rattle.sections.specs.TextWords.{words_of};
 ghost use Rattle.entries.specs.Entries.{MacrosRead, ListRead};

@@ -1,5 +1,7 @@
 //! Finite graphs whose nodes need one another: an order in which each node comes after all those that it needs, or the least node
 //! that lies on a circle; and the one solution of a system of equations, one for each node, over the nodes that it needs.
+#![tactic(auto)]
+
 ghost use Rattle.std.specs.Prelude.{◌≡◌, ℕ, ◌<◌, Bool};
 ghost use Rattle.graph.specs.Answer.{Answered};
 ghost use Rattle.graph.specs.Needs.{Exactly};

@@ -1,5 +1,7 @@
 //! Bytes, texts and numbers written into a lent buffer, as far as it goes. Each function answers the place after what it
 //! wrote, also past the buffer's end, so that writing into an empty buffer tells a length.
+#![tactic(auto)]
+
 ghost use Rattle.std.specs.Prelude.{◌≡◌, ℕ, ◌+◌, ◌^◌, ◌<◌, ◌≤◌, [], ◌∷◌, length, decimal};
 ghost use Rattle.lines.specs.Laid.{laid, Put};
 

@@ -1,4 +1,6 @@
 //! The checks after the closing stop, and the circuit: parts by rank, telling each other by rank.
+#![tactic(auto)]
+
 ghost use Rattle.link.specs.Checks.{Linked};
 
 use circuit::parts::{Body, Item, Listed, Span};

@@ -1,4 +1,6 @@
 //! Graphs of at most 64 nodes whose arcs are set one by one.
+#![tactic(auto)]
+
 ghost use Rattle.std.specs.Prelude.{◌≡◌, true, false, ℕ, min, ◌<◌};
 ghost use Rattle.links.specs.Linked.{nodes, linked, Added};
 

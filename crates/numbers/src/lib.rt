@@ -1,5 +1,7 @@
 //! Numbers in a drawing's text: sums of terms, each a row of digits with a mark that tells its
 //! base. A fault stands at the place of the word that the number is part of.
+#![tactic(auto)]
+
 ghost use Rattle.std.specs.Prelude.{◌≡◌};
 ghost use Rattle.refusal.specs.declared.kinds.Refusal.TheVariants.{Malformed, NumberTooLarge, OutOfRange};
 ghost use Rattle.numbers.specs.Numbers.{word_of, power, term_value, term, number, binary_value};

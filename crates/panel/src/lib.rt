@@ -1,4 +1,6 @@
 //! The panel: a device of eight ports, at which words come to wait by pressing.
+#![tactic(auto)]
+
 ghost use Rattle.std.specs.Prelude.{◌≡◌, length};
 
 mod port;

@@ -1,4 +1,6 @@
 //! One part of a drawing, from its words.
+#![tactic(auto)]
+
 ghost use Rattle.std.specs.Prelude.{◌≡◌};
 ghost use Rattle.verdict.specs.Macros.{finished};
 ghost use Rattle.sections.specs.Nexts.{next_of};

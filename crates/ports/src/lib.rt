@@ -1,4 +1,6 @@
 //! What the memories of a board do in a step: checked against a device first, and then carried out.
+#![tactic(auto)]
+
 pub mod deed;
 
 use deed::Deed;

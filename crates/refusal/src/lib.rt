@@ -1,4 +1,6 @@
 //! Why a drawing, a run sheet, a call or a port is refused, and where.
+#![tactic(auto)]
+
 ghost use Rattle.std.specs.Prelude.{◌≡◌};
 ghost use Rattle.refusal.specs.Numbers.{number};
 ghost use Rattle.refusal.specs.declared.kinds.Failure.TheVariants.{Refused, NoMemory};

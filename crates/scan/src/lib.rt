@@ -1,4 +1,5 @@
 //! Cuts a text into words with their places, and reads the names among them.
+#![tactic(auto)]
 
 pub mod bytes;
 pub mod names;

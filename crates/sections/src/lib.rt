@@ -1,2 +1,4 @@
 //! The sections of a drawing's text: macros, list and parts.
+#![tactic(auto)]
+
 pub mod rows;

@@ -1,4 +1,6 @@
 //! The run sheet: how many cycles to run, and a device at whose ports the sheet's words wait.
+#![tactic(auto)]
+
 ghost use Rattle.std.specs.Prelude.{◌≡◌, length};
 ghost use Rattle.sheet.specs.Slots.{noted, counted};
 

@@ -1,4 +1,5 @@
 //! The verdict on a drawing: what its text means or which refusal it meets, as definitions in `specs/`, and what is proved of them.
+#![tactic(auto)]
 
 ghost use Rattle.verdict.specs.Lines.{AcceptedAlike, LinesMeanNothing, CircularExactly, NamesByRank};
 ghost use Rattle.verdict.specs.Written.{MacrosPutIn};

@@ -1,4 +1,6 @@
 //! Words of the board: whole numbers of 31 bits.
+#![tactic(auto)]
+
 pub mod functions;
 pub mod laws;
 pub mod range;
