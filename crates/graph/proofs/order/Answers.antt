@@ -7,25 +7,25 @@ use Rattle.graph.proofs.Lengths.{order_length}
 use Rattle.graph.proofs.Grids.{rows_square}
 use Rattle.graph.proofs.order.Goals as goal
 
-pub first-on-circle-requires : goal.first-on-circle-requires
-first-on-circle-requires g c =
+pub first_on_circle-requires : goal.first_on_circle-requires
+first_on_circle-requires g c =
     let n = g.G.Graph.size c.args.g.now in
-    rows_square _ n (reaches (g.G.Graph.wants c.args.g.now) n) (ap bits c.as-slice-reach.ensures.value ∙ c.in-ok-rows.ensures)
+    rows_square _ n (reaches (g.G.Graph.wants c.args.g.now) n) (ap bits c.as_slice-reach.ensures.value ∙ c.in_ok-rows.ensures)
 
-pub ranks-of-requires : goal.ranks-of-requires
-ranks-of-requires g c =
+pub ranks_of-requires : goal.ranks_of-requires
+ranks_of-requires g c =
     let n = g.G.Graph.size c.args.g.now in
-    rows_square _ n (reaches (g.G.Graph.wants c.args.g.now) n) (ap bits c.as-slice-reach.ensures.value ∙ c.in-ok-rows.ensures)
+    rows_square _ n (reaches (g.G.Graph.wants c.args.g.now) n) (ap bits c.as_slice-reach.ensures.value ∙ c.in_ok-rows.ensures)
 
 pub returns-in-Some : goal.returns-in-Some
 returns-in-Some g c =
-    let is = ap bits c.as-slice-reach.ensures.value ∙ c.in-ok-rows.ensures in
+    let is = ap bits c.as_slice-reach.ensures.value ∙ c.in_ok-rows.ensures in
     let found = c.in-Some.ensures.found in
     let before = c.in-Some.ensures.before in
-    circle_found c.as-slice-reach.result.now (g.G.Graph.size c.args.g.now) (g.G.Graph.wants c.args.g.now) is _ (search rules) (search rules) (search rules)
+    circle_found c.as_slice-reach.result.now (g.G.Graph.size c.args.g.now) (g.G.Graph.wants c.args.g.now) is _ (search rules) (search rules) (search rules)
 
 pub returns : goal.returns
 returns g c =
-    let is = ap bits c.as-slice-reach.ensures.value ∙ c.in-ok-rows.ensures in
-    let found = order_found c.as-slice-reach.result.now (g.G.Graph.size c.args.g.now) (g.G.Graph.wants c.args.g.now) is c.in-default.ensures.before c.as-slice.result.now _ (c.as-slice.ensures.value ∙ c.in-ok-ranks.ensures) c.in-ok-order.ensures in
-    (found.0, found.1, c.in-ok-order.order.ok.0 ∙ order_length _ _ _ found.0)
+    let is = ap bits c.as_slice-reach.ensures.value ∙ c.in_ok-rows.ensures in
+    let found = order_found c.as_slice-reach.result.now (g.G.Graph.size c.args.g.now) (g.G.Graph.wants c.args.g.now) is c.in_default.ensures.before c.as_slice.result.now _ (c.as_slice.ensures.value ∙ c.in_ok-ranks.ensures) c.in_ok-order.ensures in
+    (found.0, found.1, c.in_ok-order.order.ok.0 ∙ order_length _ _ _ found.0)

@@ -14,4 +14,4 @@ returns t c =
     let n = c.args.number in
     let fit : n < 2 ^ 64 = omega arith in
     let more = ap length (decimal_step n c.if-number-lt10.false fit) ∙ length_push (decimal (n / 10)) (48 + n % 10) in
-    record { digits = omega (arith, more, c.number-length.ensures.digits); bound = omega (arith, c.number-length.ensures.bound) }
+    record { digits = omega (arith, more, c.number_length.ensures.digits); bound = omega (arith, c.number_length.ensures.bound) }

@@ -12,8 +12,8 @@ loop-byte-preserved c =
     let i = c.loop-byte.byte-index in
     let bytes = c.args.bytes.now in
     let short : length c.args.out.now < 2 ^ 64 = omega arith in
-    let both = puts_then _ _ _ _ _ _ _ _ short c.loop-byte.invariant c.put-byte-end.ensures in
-    subst (λ l. Put c.args.at l c.args.out.now c.put-byte-end.new.out c.put-byte-end.result) (sym (take_more bytes i 0 c.loop-byte-test.true)) both
+    let both = puts_then _ _ _ _ _ _ _ _ short c.loop-byte.invariant c.put_byte-end.ensures in
+    subst (λ l. Put c.args.at l c.args.out.now c.put_byte-end.new.out c.put_byte-end.result) (sym (take_more bytes i 0 c.loop-byte-test.true)) both
 
 pub returns : goal.returns
 returns c = subst (λ l. Put c.args.at l c.args.out.now c.loop-byte.out c.loop-byte.end) (take_all _ _ c.loop-byte-test.false) c.loop-byte.invariant

@@ -5,9 +5,9 @@ use Rattle.numbers.proofs.Sums.{tally, tally_number, tally_more}
 use Rattle.numbers.proofs.number.Goals as goal
 
 pub loop-piece-init : goal.loop-piece-init
-loop-piece-init c = ap (λ p. tally 0 (remaining p)) c.into-iter-piece-iterator.ensures.into-iter-gives ∙ ap (tally 0) c.new-piece-items.ensures ∙ tally_number c.args.text.now
+loop-piece-init c = ap (λ p. tally 0 (remaining p)) c.into_iter-piece-iterator.ensures.into_iter-gives ∙ ap (tally 0) c.new-piece-items.ensures ∙ tally_number c.args.text.now
 
 pub loop-piece-preserved : goal.loop-piece-preserved
 loop-piece-preserved c =
-    tally_more _ _ c.in-Some.piece.now (remaining c.next.new.self) c.in-ok-total.ensures.judged
+    tally_more _ _ c.in-Some.piece.now (remaining c.next.new.self) c.in_ok-total.ensures.judged
     ∙ sym (ap (tally c.loop-piece.total) c.in-Some.ensures.steps) ∙ c.loop-piece.invariant

@@ -4,7 +4,7 @@ use Rattle.std.proofs.lemmas.List.{length-replicate, replicate_more}
 use Rattle.graph.proofs.systems.filled.Goals as goal
 
 pub loop-i-preserved : goal.loop-i-preserved
-loop-i-preserved g c = c.in-ok-push.ensures.items ∙ (ap (λ v. v ++ c.args.x ∷ []) c.loop-i.invariant ∙ replicate_more c.loop-i.-i c.args.x)
+loop-i-preserved g c = c.in_ok-push.ensures.items ∙ (ap (λ v. v ++ c.args.x ∷ []) c.loop-i.invariant ∙ replicate_more c.loop-i._i c.args.x)
 
 pub returns : goal.returns
 returns g c =

@@ -15,15 +15,15 @@ loop-piece-init c = (
   refl,
   refl,
   none_placed (least_met c.new-wrong.result) c.args.place c.new-wrong.ensures,
-  tally_none (least_met c.new-wrong.result) (remaining c.into-iter-piece-iterator.result) c.args.field.now
+  tally_none (least_met c.new-wrong.result) (remaining c.into_iter-piece-iterator.result) c.args.field.now
       c.new-wrong.ensures
-      (ap remaining c.into-iter-piece-iterator.ensures.into-iter-gives ∙ c.new-piece-items.ensures),
+      (ap remaining c.into_iter-piece-iterator.ensures.into_iter-gives ∙ c.new-piece-items.ensures),
 )
 
 pub loop-piece-preserved-in-Ok : goal.loop-piece-preserved-in-Ok
 loop-piece-preserved-in-Ok c =
     let inv = c.loop-piece.invariant in
-    let wide = c.width-of.ensures in (
+    let wide = c.width_of.ensures in (
       inv.0 + 1,
       inv.1 + width (item_of c.in-Ok.one),
       omega (arith, wide.value, wide.some),

@@ -9,26 +9,26 @@ use Rattle.items.specs.Told.{items_in_turn}
 use Rattle.items.proofs.Turns.{kept_more, turn_more, turn_bad, turn_all, turn_same, turn_never}
 use Rattle.items.proofs.expression.keep.Goals as goal
 
-pub returns-in-err-item : goal.returns-in-err-item
-returns-in-err-item c =
+pub returns-in_err-item : goal.returns-in_err-item
+returns-in_err-item c =
     let inv = c.loop-text.invariant in
-    let told = c.in-err-item.ensures in
-    let first : items_in_turn c.args.field.now ≡ bad (fault_number c.in-err-item.field-0.0) =
+    let told = c.in_err-item.ensures in
+    let first : items_in_turn c.args.field.now ≡ bad (fault_number c.in_err-item.field-0.0) =
     turn_bad (map item_of inv.0) _ c.in-Some.text.now (remaining c.next.new.self) (remaining c.loop-text.text-iterator)
     told.judged
     c.in-Some.ensures.steps
     inv.2 in
-    let p = err_from_is_err_and c.from-residual.result c.from-residual.ensures.1 in
+    let p = err_from_is_err_and c.from_residual.result c.from_residual.ensures.1 in
     rw (p.1, p.2) (record { new = inv.0; behind = inv.1; read = (first, told.placed); whole = λ es. turn_never c.args.field.now _ es first })
 
 pub loop-text-preserved : goal.loop-text-preserved
 loop-text-preserved c =
     let inv = c.loop-text.invariant in
-    let one = c.in-ok-item.field-0 in (
+    let one = c.in_ok-item.field-0 in (
       inv.0 ++ one ∷ [],
-      kept_more (vec_items c.args.items.now) inv.0 (vec_items c.loop-text.items) (vec_items c.push.new.self) one c.in-ok-push.ensures.items inv.1,
+      kept_more (vec_items c.args.items.now) inv.0 (vec_items c.loop-text.items) (vec_items c.push.new.self) one c.in_ok-push.ensures.items inv.1,
       turn_more inv.0 one c.in-Some.text.now (remaining c.next.new.self) (remaining c.loop-text.text-iterator)
-          c.in-ok-item.ensures.judged
+          c.in_ok-item.ensures.judged
           c.in-Some.ensures.steps
           inv.2,
     )

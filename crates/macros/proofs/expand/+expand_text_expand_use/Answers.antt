@@ -10,61 +10,61 @@ use Rattle.macros.proofs.Standing.{rank_is, text_before, text_said, not_missing}
 use Rattle.macros.proofs.Writing.{split, go_on, before_rest, refuse}
 use Rattle.macros.proofs.expand.+expand_text_expand_use.Goals as goal
 
-pub expand-text-loop-piece-preserved-in-Continue· : goal.expand-text-loop-piece-preserved-in-Continue·
-expand-text-loop-piece-preserved-in-Continue· t c =
+pub expand_text-loop-piece-preserved-in-Continue· : goal.expand_text-loop-piece-preserved-in-Continue·
+expand_text-loop-piece-preserved-in-Continue· t c =
     let first : remaining c.loop-piece.piece-iterator ≡ plain c.in-Plain.byte ∷ remaining c.next.new.self =
     c.in-Some.ensures.steps ∙ ap (λ p. meant p ∷ remaining c.next.new.self) c.in-Plain.is in
-    let wrote = c.in-ok-put.ensures in
+    let wrote = c.in_ok-put.ensures in
     let v = c.put.new.out.ok.0 in (
       omega (arith, ap length wrote.0, wrote.1),
       before_rest (names_of (entries c.args.table.now)) c.args.below (remaining c.loop-piece.piece-iterator) (remaining c.next.new.self) (plain c.in-Plain.byte) first c.loop-piece.invariant.1,
       go_on (full c.args.below (entries c.args.table.now)) (vec_items c.loop-piece.out) (vec_items c.put.new.out) _ (remaining c.loop-piece.piece-iterator) (remaining c.next.new.self) (plain c.in-Plain.byte) first c.loop-piece.invariant.2 wrote.0,
     )
 
-pub expand-text-returns-in-err-put : goal.expand-text-returns-in-err-put
-expand-text-returns-in-err-put t c =
+pub expand_text-returns-in_err-put : goal.expand_text-returns-in_err-put
+expand_text-returns-in_err-put t c =
     let first : remaining c.loop-piece.piece-iterator ≡ plain c.in-Plain.byte ∷ remaining c.next.new.self =
     c.in-Some.ensures.steps ∙ ap (λ p. meant p ∷ remaining c.next.new.self) c.in-Plain.is in
-    let p = err_from_is_err_and c.from-residual.result c.from-residual.ensures.1 in
+    let p = err_from_is_err_and c.from_residual.result c.from_residual.ensures.1 in
     rw (p.1, p.2)
     (refuse c.args.place (vec_items c.args.out.now) (vec_items c.loop-piece.out) (vec_items c.put.new.out) (c.in-Plain.byte ∷ [])
     (said c.args.below (entries c.args.table.now) c.args.text.now) (put_in (full c.args.below (entries c.args.table.now)) (remaining c.next.new.self)) _
     (split (full c.args.below (entries c.args.table.now)) (vec_items c.loop-piece.out) _ (remaining c.loop-piece.piece-iterator) (remaining c.next.new.self) (plain c.in-Plain.byte) first c.loop-piece.invariant.2)
-    c.in-err-put.ensures)
+    c.in_err-put.ensures)
 
-pub expand-text-loop-piece-preserved : goal.expand-text-loop-piece-preserved
-expand-text-loop-piece-preserved t c =
+pub expand_text-loop-piece-preserved : goal.expand_text-loop-piece-preserved
+expand_text-loop-piece-preserved t c =
     let first : remaining c.loop-piece.piece-iterator ≡ macro c.in-Use.used.now ∷ remaining c.next.new.self =
     c.in-Some.ensures.steps ∙ ap (λ p. meant p ∷ remaining c.next.new.self) c.in-Use.is in
-    let wrote = c.in-ok-expand-use.ensures in
-    let v = c.expand-use.new.out.ok.0 in (
+    let wrote = c.in_ok-expand_use.ensures in
+    let v = c.expand_use.new.out.ok.0 in (
       omega (arith, ap length wrote.0, wrote.1),
       before_rest (names_of (entries c.args.table.now)) c.args.below (remaining c.loop-piece.piece-iterator) (remaining c.next.new.self) (macro c.in-Use.used.now) first c.loop-piece.invariant.1,
-      go_on (full c.args.below (entries c.args.table.now)) (vec_items c.loop-piece.out) (vec_items c.expand-use.new.out) _ (remaining c.loop-piece.piece-iterator) (remaining c.next.new.self) (macro c.in-Use.used.now) first c.loop-piece.invariant.2 wrote.0,
+      go_on (full c.args.below (entries c.args.table.now)) (vec_items c.loop-piece.out) (vec_items c.expand_use.new.out) _ (remaining c.loop-piece.piece-iterator) (remaining c.next.new.self) (macro c.in-Use.used.now) first c.loop-piece.invariant.2 wrote.0,
     )
 
-pub expand-text-returns-in-err-expand-use : goal.expand-text-returns-in-err-expand-use
-expand-text-returns-in-err-expand-use t c =
+pub expand_text-returns-in_err-expand_use : goal.expand_text-returns-in_err-expand_use
+expand_text-returns-in_err-expand_use t c =
     let first : remaining c.loop-piece.piece-iterator ≡ macro c.in-Use.used.now ∷ remaining c.next.new.self =
     c.in-Some.ensures.steps ∙ ap (λ p. meant p ∷ remaining c.next.new.self) c.in-Use.is in
-    let p = err_from_is_err_and c.from-residual-in-err-expand-use.result c.from-residual-in-err-expand-use.ensures.1 in
+    let p = err_from_is_err_and c.from_residual-in_err-expand_use.result c.from_residual-in_err-expand_use.ensures.1 in
     rw (p.1, p.2)
-    (refuse c.args.place (vec_items c.args.out.now) (vec_items c.loop-piece.out) (vec_items c.expand-use.new.out) (text_of (full c.args.below (entries c.args.table.now)) c.in-Use.used.now)
+    (refuse c.args.place (vec_items c.args.out.now) (vec_items c.loop-piece.out) (vec_items c.expand_use.new.out) (text_of (full c.args.below (entries c.args.table.now)) c.in-Use.used.now)
     (said c.args.below (entries c.args.table.now) c.args.text.now) (put_in (full c.args.below (entries c.args.table.now)) (remaining c.next.new.self)) _
     (split (full c.args.below (entries c.args.table.now)) (vec_items c.loop-piece.out) _ (remaining c.loop-piece.piece-iterator) (remaining c.next.new.self) (macro c.in-Use.used.now) first c.loop-piece.invariant.2)
-    c.in-err-expand-use.ensures)
+    c.in_err-expand_use.ensures)
 
-pub expand-use-expand-text-requires : goal.expand-use-expand-text-requires
-expand-use-expand-text-requires t c =
+pub expand_use-expand_text-requires : goal.expand_use-expand_text-requires
+expand_use-expand_text-requires t c =
     let found = c.in-Some.ensures.first in
     let rank = rank_is c.args.table.now c.args.used.now c.in-Some.at found in
     (omega (arith, c.requires.before), (c.requires.ordered, (text_before c.args.table.now c.args.used.now c.in-Some.at found c.requires.ordered, (omega (arith, c.requires.before, c.requires.within), c.requires.short))))
 
-pub expand-use-unreachable-requires : goal.expand-use-unreachable-requires
-expand-use-unreachable-requires t c = not_missing c.args.table.now c.args.used.now c.args.below c.in-None.ensures.first c.requires.before c.requires.within
+pub expand_use-unreachable-requires : goal.expand_use-unreachable-requires
+expand_use-unreachable-requires t c = not_missing c.args.table.now c.args.used.now c.args.below c.in-None.ensures.first c.requires.before c.requires.within
 
-pub expand-use-returns : goal.expand-use-returns
-expand-use-returns t c =
-    subst (λ w. Wrote c.args.place (vec_items c.args.out.now) (vec_items c.expand-text.new.out) w c.expand-text.result)
+pub expand_use-returns : goal.expand_use-returns
+expand_use-returns t c =
+    subst (λ w. Wrote c.args.place (vec_items c.args.out.now) (vec_items c.expand_text.new.out) w c.expand_text.result)
     (text_said c.args.table.now c.args.used.now c.in-Some.at c.in-Some.ensures.first c.args.below c.requires.ordered c.requires.within c.requires.before)
-    c.expand-text.ensures
+    c.expand_text.ensures

@@ -5,12 +5,12 @@ use Rattle.macros.specs.Uses.{entries}
 use Rattle.macros.proofs.Known.{asked}
 use Rattle.macros.proofs.uses.all_known.Goals as goal
 
-pub returns-then-is-none : goal.returns-then-is-none
-returns-then-is-none c =
-    let unknown = asked (names_of (entries c.args.table.now)) c.in-Use.used.now c.macro-of.result false c.macro-of.ensures.first c.if-is-none.ensures in
+pub returns-then-is_none : goal.returns-then-is_none
+returns-then-is_none c =
+    let unknown = asked (names_of (entries c.args.table.now)) c.in-Use.used.now c.macro_of.result false c.macro_of.ensures.first c.if-is_none.ensures in
     search rules
 
-pub loop-piece-preserved-else-is-none : goal.loop-piece-preserved-else-is-none
-loop-piece-preserved-else-is-none c =
-    let known = asked (names_of (entries c.args.table.now)) c.in-Use.used.now c.macro-of.result true c.macro-of.ensures.first c.if-is-none.ensures in
+pub loop-piece-preserved-else-is_none : goal.loop-piece-preserved-else-is_none
+loop-piece-preserved-else-is_none c =
+    let known = asked (names_of (entries c.args.table.now)) c.in-Use.used.now c.macro_of.result true c.macro_of.ensures.first c.if-is_none.ensures in
     search rules

@@ -6,5 +6,5 @@ use Rattle.macros.proofs.uses.leading_name.Goals as goal
 pub slice-bounds-result-end : goal.slice-bounds-result-end
 slice-bounds-result-end c = omega (arith, run_short c.args.text.now)
 
-pub returns-then-is-letter : goal.returns-then-is-letter
-returns-then-is-letter c = leading_is c.args.text.now c.run-length.result (sym c.if-is-letter.ensures) c.run-length.ensures
+pub returns-then-is_letter : goal.returns-then-is_letter
+returns-then-is_letter c = leading_is c.args.text.now c.run_length.result (sym c.if-is_letter.ensures) c.run_length.ensures

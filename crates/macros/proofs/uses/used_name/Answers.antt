@@ -7,6 +7,6 @@ use Rattle.macros.proofs.uses.used_name.Goals as goal
 
 pub returns-in-126 : goal.returns-in-126
 returns-in-126 c =
-    c.leading-name.ensures
+    c.leading_name.ensures
     ∙ (ap leading_name (take_rest c.args.text.now 1)
     ∙ sym (use_is c.args.text.now (search rules)))

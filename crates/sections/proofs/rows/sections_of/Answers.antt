@@ -7,6 +7,6 @@ use Rattle.sections.proofs.rows.sections_of.Goals as goal
 
 pub returns : goal.returns
 returns c = record {
-  sections = simp sub-zero (sections_cut c.args.end c.args.words.now c.macro-words-count.result c.up-to-stop-list.result c.up-to-stop-parts.result c.macro-words-count.ensures.count (simp take_rest at c.up-to-stop-list.ensures) c.up-to-stop-parts.ensures);
-  marked = simp sub-zero (marked_macros c.args.words.now c.macro-words-count.result c.macro-words-count.ensures.count);
+  sections = simp sub-zero (sections_cut c.args.end c.args.words.now c.macro_words-count.result c.up_to_stop-list.result c.up_to_stop-parts.result c.macro_words-count.ensures.count (simp take_rest at c.up_to_stop-list.ensures) c.up_to_stop-parts.ensures);
+  marked = simp sub-zero (marked_macros c.args.words.now c.macro_words-count.result c.macro_words-count.ensures.count);
 }

@@ -9,11 +9,11 @@ pub loop-port-preserved : goal.loop-port-preserved
 loop-port-preserved c =
     let end = length (reader_text c.args.reader) in
     let first = c.in-Some.ensures in
-    let second = c.in-ok-next-number.ensures in
+    let second = c.in_ok-next_number.ensures in
     let behind = left c.next.new.self in
     let text : reader_text c.next.new.self ≡ reader_text c.args.reader = first.whole ∙ c.loop-port.invariant.0 in (
       second.whole ∙ text,
       c.loop-port.invariant.1 ∙ ap (pairs end) first.word
-          ∙ both_good end _ _ (word_of c.in-Some.port) behind c.in-ok-limited.ensures (second.value ∙ ap (λ t. first_of (length t) 2147483647 behind) text)
+          ∙ both_good end _ _ (word_of c.in-Some.port) behind c.in_ok-limited.ensures (second.value ∙ ap (λ t. first_of (length t) 2147483647 behind) text)
           ∙ ap (pairs end) (sym second.rest),
     )

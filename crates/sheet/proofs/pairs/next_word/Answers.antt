@@ -30,5 +30,5 @@ loop-to-preserved c =
     let rest = left c.next-in-Some.new.self in (
       c.in-Some-next.ensures.whole ∙ c.in-Some.ensures.whole ∙ c.loop-to.invariant.0,
       c.loop-to.invariant.1
-          ∙ sent_elsewhere c.args.port to second (left c.loop-to.reader) one rest c.in-Some.ensures.word c.in-Some-next.ensures.word c.in-default-sent.ensures,
+          ∙ sent_elsewhere c.args.port to second (left c.loop-to.reader) one rest c.in-Some.ensures.word c.in-Some-next.ensures.word c.in_default-sent.ensures,
     )

@@ -3,8 +3,8 @@ use Rattle.std.proofs.Common.{rules}
 use Rattle.macros.proofs.Handing.{hands_use, hands_plain, hands_none}
 use Rattle.macros.proofs.pieces.TextPiecesIterator.next.Goals as goal
 
-pub returns-then-is-empty : goal.returns-then-is-empty
-returns-then-is-empty c =
+pub returns-then-is_empty : goal.returns-then-is_empty
+returns-then-is_empty c =
     let none = hands_none c.args.self.now.rest.now (search rules) in
     search rules
 

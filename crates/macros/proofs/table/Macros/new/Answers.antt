@@ -10,44 +10,44 @@ use Rattle.macros.proofs.Entries.{place_at}
 use Rattle.macros.proofs.Making.{too_many, unknown_told, circle_judged, order_failed, table_in_order, same_fields}
 use Rattle.macros.proofs.table.Macros.new.Goals as goal
 
-pub returns-then-defined-gt-MOST-MACROS : goal.returns-then-defined-gt-MOST-MACROS
-returns-then-defined-gt-MOST-MACROS c =
-    too_many c.args.defined.now c.if-defined-gt-MOST-MACROS.true
+pub returns-then-defined-gt-MOST_MACROS : goal.returns-then-defined-gt-MOST_MACROS
+returns-then-defined-gt-MOST_MACROS c =
+    too_many c.args.defined.now c.if-defined-gt-MOST_MACROS.true
     ∙ (ap (refuse 16) (sym (place_at c.args.defined.now 64)) ∙ ap (λ f. refuse (number f.refusal) f.place) (sym c.at.ensures))
 
-pub returns-in-err-check-known : goal.returns-in-err-check-known
-returns-in-err-check-known c =
-    let by_name = c.as-slice-rows.ensures.value ∙ c.in-ok-by-name.ensures.items in
-    let p = err_from_is_err_and c.from-residual-in-err-check-known.result c.from-residual-in-err-check-known.ensures.1 in
-    rw (p.1, p.2) (unknown_told c.args.defined.now c.as-slice-rows.result.now by_name c.if-defined-gt-MOST-MACROS.false _ _ c.in-err-check-known.ensures)
+pub returns-in_err-check_known : goal.returns-in_err-check_known
+returns-in_err-check_known c =
+    let by_name = c.as_slice-rows.ensures.value ∙ c.in_ok-by_name.ensures.items in
+    let p = err_from_is_err_and c.from_residual-in_err-check_known.result c.from_residual-in_err-check_known.ensures.1 in
+    rw (p.1, p.2) (unknown_told c.args.defined.now c.as_slice-rows.result.now by_name c.if-defined-gt-MOST_MACROS.false _ _ c.in_err-check_known.ensures)
 
-pub returns-in-err-order : goal.returns-in-err-order
-returns-in-err-order c =
-    let by_name = c.as-slice-rows.ensures.value ∙ c.in-ok-by-name.ensures.items in
-    let p = err_from_is_err_and c.from-residual-in-err-order.result c.from-residual-in-err-order.ensures.1 in
-    rw (p.1, p.2) (order_failed c.args.defined.now c.as-slice-rows.result.now by_name c.if-defined-gt-MOST-MACROS.false c.in-ok-check-known.ensures _ c.in-err-order.ensures)
+pub returns-in_err-order : goal.returns-in_err-order
+returns-in_err-order c =
+    let by_name = c.as_slice-rows.ensures.value ∙ c.in_ok-by_name.ensures.items in
+    let p = err_from_is_err_and c.from_residual-in_err-order.result c.from_residual-in_err-order.ensures.1 in
+    rw (p.1, p.2) (order_failed c.args.defined.now c.as_slice-rows.result.now by_name c.if-defined-gt-MOST_MACROS.false c.in_ok-check_known.ensures _ c.in_err-order.ensures)
 
 pub arranged-requires : goal.arranged-requires
 arranged-requires c =
-    subst (λ v. (i : ℕ) → i < length v → get_or v i 0 < length c.as-slice-rows.result.now) (sym c.as-slice.ensures.value)
-    (λ i l. omega (arith, c.in-ok-order.ensures.0.within i l, length-map c.as-slice-rows.result.now entry))
+    subst (λ v. (i : ℕ) → i < length v → get_or v i 0 < length c.as_slice-rows.result.now) (sym c.as_slice.ensures.value)
+    (λ i l. omega (arith, c.in_ok-order.ensures.0.within i l, length-map c.as_slice-rows.result.now entry))
 
 pub invariant-of-result : goal.invariant-of-result
 invariant-of-result c =
-    let by_name = c.as-slice-rows.ensures.value ∙ c.in-ok-by-name.ensures.items in (
-      table_in_order c.args.defined.now c.as-slice-rows.result.now by_name c.if-defined-gt-MOST-MACROS.false c.in-ok-check-known.ensures
-          (vec_items c.in-ok-order.order) c.in-ok-order.ensures.0 (vec_items c.in-ok-table.table)
-          (c.in-ok-table.ensures ∙ ap (picked (entries c.as-slice-rows.result.now)) c.as-slice.ensures.value),
+    let by_name = c.as_slice-rows.ensures.value ∙ c.in_ok-by_name.ensures.items in (
+      table_in_order c.args.defined.now c.as_slice-rows.result.now by_name c.if-defined-gt-MOST_MACROS.false c.in_ok-check_known.ensures
+          (vec_items c.in_ok-order.order) c.in_ok-order.ensures.0 (vec_items c.in_ok-table.table)
+          (c.in_ok-table.ensures ∙ ap (picked (entries c.as_slice-rows.result.now)) c.as_slice.ensures.value),
       tt,
     )
 
 pub returns : goal.returns
 returns c =
-    let by_name = c.as-slice-rows.ensures.value ∙ c.in-ok-by-name.ensures.items in
-    let told = c.in-ok-order.ensures in (
-      circle_judged c.args.defined.now c.as-slice-rows.result.now by_name c.if-defined-gt-MOST-MACROS.false c.in-ok-check-known.ensures (read tt) told.2,
+    let by_name = c.as_slice-rows.ensures.value ∙ c.in_ok-by_name.ensures.items in
+    let told = c.in_ok-order.ensures in (
+      circle_judged c.args.defined.now c.as_slice-rows.result.now by_name c.if-defined-gt-MOST_MACROS.false c.in_ok-check_known.ensures (read tt) told.2,
       λ d w.
-          same_fields c.args.defined.now c.as-slice-rows.result.now by_name c.if-defined-gt-MOST-MACROS.false
-          (vec_items c.in-ok-order.order) told.0 told.1 (vec_items c.in-ok-table.table)
-          (c.in-ok-table.ensures ∙ ap (picked (entries c.as-slice-rows.result.now)) c.as-slice.ensures.value) d w,
+          same_fields c.args.defined.now c.as_slice-rows.result.now by_name c.if-defined-gt-MOST_MACROS.false
+          (vec_items c.in_ok-order.order) told.0 told.1 (vec_items c.in_ok-table.table)
+          (c.in_ok-table.ensures ∙ ap (picked (entries c.as_slice-rows.result.now)) c.as_slice.ensures.value) d w,
     )

@@ -6,10 +6,10 @@ use Rattle.numbers.proofs.pieces.PiecesIterator.next.Goals as goal
 pub returns-in-Some : goal.returns-in-Some
 returns-in-Some c =
     let told = c.in-Some.ensures in
-    let hands = left_at _ _ _ _ c.in-ok-rest.was told.inside told.here told.before in
+    let hands = left_at _ _ _ _ c.in_ok-rest.was told.inside told.here told.before in
     search rules
 
 pub returns-in-None : goal.returns-in-None
 returns-in-None c =
-    let hands = left_none _ _ _ c.in-ok-rest.was c.in-None.ensures.before in
+    let hands = left_none _ _ _ c.in_ok-rest.was c.in-None.ensures.before in
     search rules

@@ -6,17 +6,17 @@ use Rattle.scan.proofs.reader.Reader.next.Goals as goal
 pub returns-in-Some : goal.returns-in-Some
 returns-in-Some c =
     let told = c.in-Some.ensures in
-    let handed = hands _ _ _ _ _ _ c.loop-self-test.true c.class-of-class.ensures told.moves told.answers in
+    let handed = hands _ _ _ _ _ _ c.loop-self-test.true c.class_of-class.ensures told.moves told.answers in
     record {
       whole = c.loop-self.invariant.0;
       word = (cc);
-      within = omega (arith, c.word-at.ensures.within, ap length c.loop-self.invariant.0);
+      within = omega (arith, c.word_at.ensures.within, ap length c.loop-self.invariant.0);
     }
 
 pub loop-self-preserved : goal.loop-self-preserved
 loop-self-preserved c =
-    let told = c.in-default.ensures in
-    (c.loop-self.invariant.0, sym (passes _ _ _ _ _ c.loop-self-test.true c.class-of-class.ensures told.moves told.answers) ∙ c.loop-self.invariant.1)
+    let told = c.in_default.ensures in
+    (c.loop-self.invariant.0, sym (passes _ _ _ _ _ c.loop-self-test.true c.class_of-class.ensures told.moves told.answers) ∙ c.loop-self.invariant.1)
 
 pub returns-in-Some-finish : goal.returns-in-Some-finish
 returns-in-Some-finish c =
@@ -25,7 +25,7 @@ returns-in-Some-finish c =
     record {
       whole = c.loop-self.invariant.0;
       word = (cc);
-      within = omega (arith, c.word-at-in-Some-finish.ensures.within, ap length c.loop-self.invariant.0);
+      within = omega (arith, c.word_at-in-Some-finish.ensures.within, ap length c.loop-self.invariant.0);
     }
 
 pub returns-in-None : goal.returns-in-None
