@@ -76,7 +76,7 @@ pub fn solutions_stand<V>() -> u8
 
 /// Lists each node after all those that it needs, or names the least node that lies on a circle.
 pub fn order<G: Graph>(heap: Global, g: &G) -> Result<Vec<usize>, OrderFault>
-    ensures { Answered (size g.now) (wants g.now) result }
+    ensures { Answered (G.size g.now) (G.wants g.now) result }
 {
     let rows = reached(heap, g)?;
     let reach = rows.as_slice();

@@ -9,8 +9,8 @@ use std::alloc::{AllocError, Global};
 
 /// Which nodes node `a` needs.
 fn first_row<G: Graph>(heap: Global, g: &G, a: usize) -> Result<Vec<bool>, AllocError>
-    requires { a < size g.now }
-    ensures { IfOk result (λ v. v.items ≡ table (size g.now) (wants g.now a)) }
+    requires { a < G.size g.now }
+    ensures { IfOk result (λ v. v.items ≡ table (G.size g.now) (G.wants g.now a)) }
 {
     let mut row = Vec::new(heap);
     for b in 0..g.nodes() {
@@ -21,7 +21,7 @@ fn first_row<G: Graph>(heap: Global, g: &G, a: usize) -> Result<Vec<bool>, Alloc
 
 /// Which node needs which: row a says of b whether a needs b.
 fn first_rows<G: Graph>(heap: Global, g: &G) -> Result<Vec<Vec<bool>>, AllocError>
-    ensures { IfOk result (λ v. bits v.items ≡ grid (size g.now) (wants g.now)) }
+    ensures { IfOk result (λ v. bits v.items ≡ grid (G.size g.now) (G.wants g.now)) }
 {
     let mut rows = Vec::new(heap);
     for a in 0..g.nodes() {
@@ -59,7 +59,7 @@ fn next_rows(heap: Global, rows: &[Vec<bool>], k: usize) -> Result<Vec<Vec<bool>
 
 /// Which node reaches which: row a says of b whether a chain leads from a to b.
 pub(crate) fn reached<G: Graph>(heap: Global, g: &G) -> Result<Vec<Vec<bool>>, AllocError>
-    ensures { IfOk result (λ v. bits v.items ≡ grid (size g.now) (reaches (wants g.now) (size g.now))) }
+    ensures { IfOk result (λ v. bits v.items ≡ grid (G.size g.now) (reaches (G.wants g.now) (G.size g.now))) }
 {
     let mut rows = first_rows(heap, g)?;
     for k in 0..g.nodes() {

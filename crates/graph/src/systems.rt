@@ -36,7 +36,7 @@ pub trait System: Graph {
 fn evaluate<S: System>(s: &S, order: &[usize], values: &mut [S::Value])
     requires ordered { Orders (S.Graph.size s.now) (S.Graph.wants s.now) order.now }
     requires all { length values.old ≡ S.Graph.size s.now }
-    ensures { OneSolution (unset s.now) (S.Graph.size s.now) (rule s.now) values.new }
+    ensures { OneSolution (S.unset s.now) (S.Graph.size s.now) (S.rule s.now) values.new }
 {
     for a in order {
         let x = s.value(*a, values);
@@ -57,7 +57,7 @@ fn filled<T: Copy>(heap: Global, x: T, n: usize) -> Result<Vec<T>, AllocError>
 
 /// The one solution of the rules of all nodes, or the least node that lies on a circle.
 pub fn solve<S: System>(heap: Global, s: &S) -> Result<Vec<S::Value>, OrderFault>
-    ensures { Settled (unset s.now) (S.Graph.size s.now) (S.Graph.wants s.now) (rule s.now) result }
+    ensures { Settled (S.unset s.now) (S.Graph.size s.now) (S.Graph.wants s.now) (S.rule s.now) result }
 {
     let order = order(heap, s)?;
     let mut values = filled(heap, s.blank(), s.nodes())?;

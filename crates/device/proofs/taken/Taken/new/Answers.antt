@@ -3,5 +3,5 @@ use lib.ListN.{length-replicate}
 use Rattle.std.proofs.Common.{rules}
 use Rattle.device.proofs.taken.Taken.new.Goals as goal
 
-pub invariant-of-result-2 : goal.invariant-of-result-2
-invariant-of-result-2 g c = (length-replicate _ _, (search rules, tt))
+pub invariant_of-result-2 : goal.invariant_of-result-2
+invariant_of-result-2 g c = (length-replicate _ _, (search rules, tt))

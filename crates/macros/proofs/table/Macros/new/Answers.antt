@@ -32,8 +32,8 @@ arranged-requires c =
     subst (λ v. (i : ℕ) → i < length v → get_or v i 0 < length c.as_slice-rows.result.now) (sym c.as_slice.ensures.value)
     (λ i l. omega (arith, c.in_ok-order.ensures.0.within i l, length-map c.as_slice-rows.result.now entry))
 
-pub invariant-of-result : goal.invariant-of-result
-invariant-of-result c =
+pub invariant_of-result : goal.invariant_of-result
+invariant_of-result c =
     let by_name = c.as_slice-rows.ensures.value ∙ c.in_ok-by_name.ensures.items in (
       table_in_order c.args.defined.now c.as_slice-rows.result.now by_name c.if-defined-gt-MOST_MACROS.false c.in_ok-check_known.ensures
           (vec_items c.in_ok-order.order) c.in_ok-order.ensures.0 (vec_items c.in_ok-table.table)

@@ -4,8 +4,8 @@ use Rattle.scan.specs.Names.{Bytes, is_name}
 use Rattle.scan.proofs.NameShape.{name_short, laid, laid_length}
 use Rattle.scan.proofs.names.Name.read.Goals as goal
 
-pub invariant-of-result : goal.invariant-of-result
-invariant-of-result c =
+pub invariant_of-result : goal.invariant_of-result
+invariant_of-result c =
     let text : Bytes = c.args.text.now in
     let named : is_name text ≡ true = search rules in
     let short : length text ≤ 16 = name_short text named in

@@ -22,8 +22,8 @@ give-answer-requires c =
     let s = c.args.self.now in
     right_at s.text.now s.slots c.args.port c.index-self-port.result s.right (omega arith)
 
-pub invariant-of-self : goal.invariant-of-self
-invariant-of-self c =
+pub invariant_of-self : goal.invariant_of-self
+invariant_of-self c =
     let s = c.args.self.now in
     let x = c.give-answer.new.self in
     (length-set s.slots c.args.port x ∙ s.wide, (right_set s.text.now s.slots c.args.port x s.right c.give-answer.ensures.right, tt))

@@ -20,8 +20,8 @@ returns-then-port-ge16 c =
       after = row_unset f s.slots p (taken_port c.args.word.value) (omega arith) refl;
     }
 
-pub invariant-of-self : goal.invariant-of-self
-invariant-of-self c =
+pub invariant_of-self : goal.invariant_of-self
+invariant_of-self c =
     let s = c.args.self.now in
     let p = c.args.port in
     let was = get_or s.slots p c.index-self-port.result in
