@@ -4,4 +4,4 @@ use Rattle.std.proofs.Common.{rules}
 use Rattle.device.proofs.taken.Taken.new.Goals as goal
 
 pub invariant_of-result-2 : goal.invariant_of-result-2
-invariant_of-result-2 g c = (length-replicate _ _, (search rules, tt))
+invariant_of-result-2 g c = record { long = length-replicate _ _; within = search rules }

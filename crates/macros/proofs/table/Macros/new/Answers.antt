@@ -34,12 +34,11 @@ arranged-requires c =
 
 pub invariant_of-result : goal.invariant_of-result
 invariant_of-result c =
-    let by_name = c.as_slice-rows.ensures.value ∙ c.in_ok-by_name.ensures.items in (
-      table_in_order c.args.defined.now c.as_slice-rows.result.now by_name c.if-defined-gt-MOST_MACROS.false c.in_ok-check_known.ensures
+    let by_name = c.as_slice-rows.ensures.value ∙ c.in_ok-by_name.ensures.items in record {
+      ordered = table_in_order c.args.defined.now c.as_slice-rows.result.now by_name c.if-defined-gt-MOST_MACROS.false c.in_ok-check_known.ensures
           (vec_items c.in_ok-order.order) c.in_ok-order.ensures.0 (vec_items c.in_ok-table.table)
-          (c.in_ok-table.ensures ∙ ap (picked (entries c.as_slice-rows.result.now)) c.as_slice.ensures.value),
-      tt,
-    )
+          (c.in_ok-table.ensures ∙ ap (picked (entries c.as_slice-rows.result.now)) c.as_slice.ensures.value);
+    }
 
 pub returns : goal.returns
 returns c =

@@ -9,7 +9,11 @@ invariant_of-result c =
     let text : Bytes = c.args.text.now in
     let named : is_name text ≡ true = search rules in
     let short : length text ≤ 16 = name_short text named in
-    (laid_length _ text _ c.copy_from_slice.ensures.after short, (short, (ap is_name (laid _ text _ c.copy_from_slice.ensures.after) ∙ named, tt)))
+    record {
+      room = laid_length _ text _ c.copy_from_slice.ensures.after short;
+      short = short;
+      named = ap is_name (laid _ text _ c.copy_from_slice.ensures.after) ∙ named;
+    }
 
 pub returns : goal.returns
 returns c = (search rules, laid _ c.args.text.now _ c.copy_from_slice.ensures.after)

@@ -26,7 +26,7 @@ pub invariant_of-self : goal.invariant_of-self
 invariant_of-self c =
     let s = c.args.self.now in
     let x = c.give-answer.new.self in
-    (length-set s.slots c.args.port x ∙ s.wide, (right_set s.text.now s.slots c.args.port x s.right c.give-answer.ensures.right, tt))
+    record { wide = length-set s.slots c.args.port x ∙ s.wide; right = right_set s.text.now s.slots c.args.port x s.right c.give-answer.ensures.right }
 
 pub returns : goal.returns
 returns c =

@@ -27,7 +27,7 @@ invariant_of-self c =
     let was = get_or s.slots p c.index-self-port.result in
     let x : Slot = record { port = was.port; from = was.from; waiting = was.waiting; taken = c.push-answer.new.self } in
     let right = right_at s.text.now s.slots p c.index-self-port.result s.right (omega arith) in
-    (length-set s.slots p x ∙ s.wide, (right_set s.text.now s.slots p x s.right right, tt))
+    record { wide = length-set s.slots p x ∙ s.wide; right = right_set s.text.now s.slots p x s.right right }
 
 pub returns : goal.returns
 returns c =
