@@ -5,7 +5,7 @@ use Rattle.numbers.proofs.Sums.{tally, tally_number, tally_more}
 use Rattle.numbers.proofs.number.Goals as goal
 
 pub loop-piece-init : goal.loop-piece-init
-loop-piece-init c = ap (λ p. tally 0 (remaining p)) c.into_iter-piece-iterator.ensures.into_iter-gives ∙ ap (tally 0) c.new-piece-items.ensures ∙ tally_number c.args.text.now
+loop-piece-init c = ap (λ p. tally 0 (remaining p)) c.into_iter-piece-iterator.ensures.into_iter_gives ∙ ap (tally 0) c.new-piece-items.ensures ∙ tally_number c.args.text.now
 
 pub loop-piece-preserved : goal.loop-piece-preserved
 loop-piece-preserved c =

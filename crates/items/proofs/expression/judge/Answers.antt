@@ -17,7 +17,7 @@ loop-piece-init c = (
   none_placed (least_met c.new-wrong.result) c.args.place c.new-wrong.ensures,
   tally_none (least_met c.new-wrong.result) (remaining c.into_iter-piece-iterator.result) c.args.field.now
       c.new-wrong.ensures
-      (ap remaining c.into_iter-piece-iterator.ensures.into_iter-gives ∙ c.new-piece-items.ensures),
+      (ap remaining c.into_iter-piece-iterator.ensures.into_iter_gives ∙ c.new-piece-items.ensures),
 )
 
 pub loop-piece-preserved-in-Ok : goal.loop-piece-preserved-in-Ok
