@@ -2,6 +2,7 @@
 ghost use Rattle.std.specs.Prelude.{◌≡◌, length};
 ghost use Rattle.verdict.specs.Macros.{pieces};
 ghost use Rattle.macros.specs.Pieces.{remaining, Hands};
+ghost use Rattle.std.specs.Iterator.{at_most};
 
 use crate::uses::used_name;
 
@@ -36,9 +37,7 @@ impl<'t> Iterator for TextPieces<'t> {
 
     ghost next_gives = { Hands };
 
-    ghost ends = { λ _. Unit {0} };
-
-    ghost remaining = { λ s. length (remaining s) };
+    ghost remaining = { λ s. at_most (length (remaining s)) };
 
     fn next(&mut self) -> Option<TextPiece<'t>> {
         let rest = self.rest;

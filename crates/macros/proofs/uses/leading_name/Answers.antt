@@ -3,8 +3,8 @@ use Rattle.std.proofs.Common.{sym, arith}
 use Rattle.macros.proofs.Runs.{run_short, leading_is}
 use Rattle.macros.proofs.uses.leading_name.Goals as goal
 
-pub slice-bounds-result-end : goal.slice-bounds-result-end
-slice-bounds-result-end c = omega (arith, run_short c.args.text.now)
+pub slice_bounds-result-end : goal.slice_bounds-result-end
+slice_bounds-result-end c = omega (arith, run_short c.args.text.now)
 
 pub returns-then-is_letter : goal.returns-then-is_letter
 returns-then-is_letter c = leading_is c.args.text.now c.run_length.result (sym c.if-is_letter.ensures) c.run_length.ensures

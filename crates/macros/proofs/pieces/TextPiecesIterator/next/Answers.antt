@@ -8,11 +8,11 @@ returns-then-is_empty c =
     let none = hands_none c.args.self.now.rest.now (search rules) in
     search rules
 
-pub slice-bounds-self-count : goal.slice-bounds-self-count
-slice-bounds-self-count c = (hands_use c.args.self.now.rest.now c.in-Some.name.now c.in-Some.ensures).1
+pub slice_bounds-self-count : goal.slice_bounds-self-count
+slice_bounds-self-count c = (hands_use c.args.self.now.rest.now c.in-Some.name.now c.in-Some.ensures).1
 
-pub slice-bounds-self-start : goal.slice-bounds-self-start
-slice-bounds-self-start c =
+pub slice_bounds-self-start : goal.slice_bounds-self-start
+slice_bounds-self-start c =
     let h = (hands_use c.args.self.now.rest.now c.in-Some.name.now c.in-Some.ensures).1 in
     search rules
 
