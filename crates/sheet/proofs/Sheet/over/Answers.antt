@@ -1,7 +1,8 @@
 -- A write of a fresh port leaves those below it fresh, and at the end all sixteen are.
-use Rattle.std.proofs.Common.{◌<◌, length, ◌∙◌, arith, length-set, below_more}
+use Rattle.std.proofs.Common.{◌≡◌, ℕ, ◌<◌, length, replicate, refl, ap, ◌∙◌, arith, length-set, below_more}
+use Rattle.device.specs.Rows.{row}
 use Rattle.scan.specs.Words.{words_after}
-use Rattle.sheet.specs.Slots.{slot_meaning}
+use Rattle.sheet.specs.Slots.{slot_meaning, fresh}
 use Rattle.sheet.proofs.Counts.{right_set, row_here, row_other, all_fresh}
 use Rattle.sheet.proofs.Sheet.over.Goals as goal
 
@@ -22,3 +23,10 @@ pub returns : goal.returns
 returns c =
     all_fresh c.args.text.now c.loop-port.slots (words_after c.args.text.now c.args.from) c.loop-port.invariant.0
     (λ k l. c.loop-port.invariant.2 k (omega arith))
+
+pub loop-port-init : goal.loop-port-init
+loop-port-init c =
+    let s = c.new-slots.result in
+    let meant : (k : ℕ) → k ≡ 0 → row (slot_meaning c.args.text.now) (replicate 16 s) k ≡ fresh (words_after c.args.text.now c.args.from) k =
+    λ k e. rw e c.new-slots.ensures.meaning in
+    (refl, ap (replicate 16) c.new-slots.ensures.right, λ k l. meant k (omega arith))
