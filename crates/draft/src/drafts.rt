@@ -1,9 +1,13 @@
 //! The parts that were read so far.
-ghost use Rattle.std.specs.Prelude.{◌≤◌, vec_len};
-
 use circuit::parts::{Body, Item, Span};
+use names::new_name;
+use refusal::kinds::{Failure, Fault, Refusal};
 use scan::names::Name;
+use scan::reader::TextWord;
 use word::value::Word;
+
+/// How many memory words a drawing may have, and a memory of it.
+pub const MOST_WORDS: usize = 4096;
 
 /// A part, and the place of its name.
 #[derive(Clone, Copy)]
@@ -20,7 +24,7 @@ pub struct Reference {
     pub place: usize,
 }
 
-/// The parts that were read so far, at most 64, with what their expressions are made of.
+/// The parts that were read so far, with what their expressions are made of.
 #[derive(Drop)]
 pub struct Draft {
     pub parts: Vec<Drafted>,
@@ -32,5 +36,25 @@ pub struct Draft {
     pub first: Vec<Word>,
     /// The names in all expressions, in text order.
     pub references: Vec<Reference>,
-    ghost few: { vec_len parts ≤ 64 },
+}
+
+impl Draft {
+    /// The name of one more part.
+    pub fn name(&self, word: TextWord<'_>) -> Result<Name, Fault> {
+        new_name(self.parts.as_slice(), word.text, word.place)
+    }
+
+    /// One more part.
+    pub fn add(&mut self, name: Name, place: usize, body: Body) -> Result<(), Failure> {
+        self.parts.push(Drafted { name, place, body })?;
+        Ok(())
+    }
+
+    /// Makes sure that `count` more memory words may stand in the drawing.
+    pub fn claim_words(&self, count: usize, place: usize) -> Result<(), Fault> {
+        if self.first.len().saturating_add(count) > MOST_WORDS {
+            return Err(Refusal::OverLimit.at(place));
+        }
+        Ok(())
+    }
 }

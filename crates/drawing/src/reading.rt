@@ -1,6 +1,4 @@
 //! The verdict on a drawing's text.
-ghost use Rattle.drawing.specs.Reads.{Told};
-
 use circuit::wiring::Circuit;
 use draft::drafts::Draft;
 use entries::{read_list, read_macros};
@@ -56,9 +54,7 @@ fn read_parts(
 }
 
 /// Reads a drawing's text.
-pub fn read(heap: Global, text: &[u8]) -> Result<Drawing, Failure>
-    ensures { Told text.now result }
-{
+pub fn read(heap: Global, text: &[u8]) -> Result<Drawing, Failure> {
     if text.len() > LONGEST_TEXT {
         return Err(Failure::Refused(Refusal::TextTooLong.at(0)));
     }

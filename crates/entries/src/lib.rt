@@ -2,10 +2,8 @@
 #![tactic(auto)]
 
 ghost use Rattle.std.specs.Prelude.{◌≡◌, ◌<◌, length};
-ghost use Rattle.sections.specs.TextWords.{words_of};
-ghost use Rattle.entries.specs.Entries.{MacrosRead, ListRead};
 
-use draft::entry::Entry;
+pub use draft::entry::Entry;
 use macros::table::Macros;
 use macros::uses::Macro;
 use names::new_name;
@@ -61,9 +59,7 @@ fn defined<'t>(heap: Global, words: &[TextWord<'t>]) -> Result<Vec<Macro<'t>>, F
 }
 
 /// The macros of a drawing, their names judged one after the other, and then their texts.
-pub fn read_macros<'t>(heap: Global, words: &[TextWord<'t>]) -> Result<Macros<'t>, Failure>
-    ensures { MacrosRead (words_of words.now) result }
-{
+pub fn read_macros<'t>(heap: Global, words: &[TextWord<'t>]) -> Result<Macros<'t>, Failure> {
     let all = defined(heap, words)?;
     Macros::new(heap, all.as_slice())
 }
@@ -91,9 +87,7 @@ fn one_entry(met: &[Entry], word: TextWord<'_>) -> Result<Entry, Fault> {
 }
 
 /// The list of a drawing.
-pub fn read_list(heap: Global, words: &[TextWord<'_>]) -> Result<Vec<Entry>, Failure>
-    ensures { ListRead (words_of words.now) result }
-{
+pub fn read_list(heap: Global, words: &[TextWord<'_>]) -> Result<Vec<Entry>, Failure> {
     let mut met = Vec::new(heap);
     for word in words {
         let one = one_entry(met.as_slice(), *word)?;

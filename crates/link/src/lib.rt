@@ -1,8 +1,6 @@
 //! The checks after the closing stop, and the circuit: parts by rank, telling each other by rank.
 #![tactic(auto)]
 
-ghost use Rattle.link.specs.Checks.{Linked};
-
 use circuit::parts::{Body, Item, Listed, Span};
 use circuit::wiring::{Circuit, marked};
 use draft::drafts::{Draft, Drafted, Reference};
@@ -15,7 +13,7 @@ use scan::names::Name;
 use std::alloc::{AllocError, Global};
 
 /// Refuses the first listed name that no part has.
-fn check_listed(listed: &[Entry], parts: &[Drafted]) -> Result<(), Fault> {
+pub fn check_listed(listed: &[Entry], parts: &[Drafted]) -> Result<(), Fault> {
     for at in 0..listed.len() {
         let entry = listed[at];
         if find(parts, entry.name.as_bytes()).is_none() {
@@ -26,7 +24,7 @@ fn check_listed(listed: &[Entry], parts: &[Drafted]) -> Result<(), Fault> {
 }
 
 /// Refuses the first part whose name is not listed.
-fn check_parts(parts: &[Drafted], listed: &[Entry]) -> Result<(), Fault> {
+pub fn check_parts(parts: &[Drafted], listed: &[Entry]) -> Result<(), Fault> {
     for rank in 0..parts.len() {
         let part = parts[rank];
         if find(listed, part.name.as_bytes()).is_none() {
@@ -37,7 +35,7 @@ fn check_parts(parts: &[Drafted], listed: &[Entry]) -> Result<(), Fault> {
 }
 
 /// Refuses the first name in an expression that no part has.
-fn check_references(references: &[Reference], parts: &[Drafted]) -> Result<(), Fault> {
+pub fn check_references(references: &[Reference], parts: &[Drafted]) -> Result<(), Fault> {
     for at in 0..references.len() {
         let reference = references[at];
         if find(parts, reference.name.as_bytes()).is_none() {
@@ -64,7 +62,7 @@ fn ranked(item: Item<Name>, parts: &[Drafted]) -> Item<usize> {
 }
 
 /// All items with parts told by rank.
-fn ranked_items(
+pub fn ranked_items(
     heap: Global,
     items: &[Item<Name>],
     parts: &[Drafted],
@@ -77,7 +75,7 @@ fn ranked_items(
 }
 
 /// The names of the parts.
-fn names_of(heap: Global, parts: &[Drafted]) -> Result<Vec<Name>, AllocError> {
+pub fn names_of(heap: Global, parts: &[Drafted]) -> Result<Vec<Name>, AllocError> {
     let mut all = Vec::new(heap);
     for rank in 0..parts.len() {
         let part = parts[rank];
@@ -87,7 +85,7 @@ fn names_of(heap: Global, parts: &[Drafted]) -> Result<Vec<Name>, AllocError> {
 }
 
 /// What the parts are.
-fn bodies_of(heap: Global, parts: &[Drafted]) -> Result<Vec<Body>, AllocError> {
+pub fn bodies_of(heap: Global, parts: &[Drafted]) -> Result<Vec<Body>, AllocError> {
     let mut all = Vec::new(heap);
     for rank in 0..parts.len() {
         let part = parts[rank];
@@ -97,7 +95,7 @@ fn bodies_of(heap: Global, parts: &[Drafted]) -> Result<Vec<Body>, AllocError> {
 }
 
 /// The list with parts told by rank.
-fn ranked_list(
+pub fn ranked_list(
     heap: Global,
     listed: &[Entry],
     parts: &[Drafted],
@@ -151,7 +149,7 @@ fn links_of(parts: &[Drafted], items: &[Item<usize>], cases: &[Span]) -> Links {
 
 /// An order of the ranks in which each ALU and selector comes after all that it reads; or the least name on a circle is
 /// refused.
-fn evaluation_order(
+pub fn evaluation_order(
     heap: Global,
     parts: &[Drafted],
     items: &[Item<usize>],
@@ -176,9 +174,7 @@ fn place_of(parts: &[Drafted], rank: usize) -> usize {
 }
 
 /// The circuit of parts and list once all was read, if it meets none of the checks after the closing stop.
-pub fn link(heap: Global, draft: Draft, listed: &[Entry]) -> Result<Circuit, Failure>
-    ensures { Linked draft listed.now result }
-{
+pub fn link(heap: Global, draft: Draft, listed: &[Entry]) -> Result<Circuit, Failure> {
     let parts = sorted(heap, draft.parts.as_slice())?;
     let by_name = sorted(heap, listed)?;
     check_listed(by_name.as_slice(), parts.as_slice())?;

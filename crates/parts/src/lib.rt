@@ -2,17 +2,12 @@
 #![tactic(auto)]
 
 ghost use Rattle.std.specs.Prelude.{◌≡◌};
-ghost use Rattle.verdict.specs.Macros.{finished};
-ghost use Rattle.sections.specs.Nexts.{next_of};
-ghost use Rattle.sections.specs.TextWords.{words_of};
 ghost use Rattle.macros.specs.Tables.{table_of};
-ghost use Rattle.parts.specs.Reads.{PartRead};
 
 use circuit::parts::{Body, Item, Span};
-use draft::drafts::{Draft, Drafted, Reference};
+use draft::drafts::{Draft, MOST_WORDS, Reference};
 use items::expression::{judge, keep};
 use macros::table::Macros;
-use names::new_name;
 use numbers::number;
 use refusal::kinds::{Failure, Fault, Refusal};
 use scan::names::Name;
@@ -26,9 +21,6 @@ const MOST_CASES: usize = 128;
 
 /// How many items a drawing may have.
 const MOST_ITEMS: usize = 2048;
-
-/// How many memory words a drawing may have, and a memory of it.
-const MOST_WORDS: usize = 4096;
 
 /// The kinds of parts.
 #[derive(Clone, Copy)]
@@ -141,14 +133,6 @@ fn refer_one(
     Ok(())
 }
 
-/// Makes sure that `count` more memory words may stand in the drawing.
-fn claim_words(draft: &Draft, count: usize, place: usize) -> Result<(), Fault> {
-    if draft.first.len().saturating_add(count) > MOST_WORDS {
-        return Err(Refusal::OverLimit.at(place));
-    }
-    Ok(())
-}
-
 /// So many words 0.
 fn zeros(draft: &mut Draft, count: usize) -> Result<(), Failure> {
     for _ in 0..count {
@@ -174,7 +158,7 @@ impl<'t> PartReader<'t> {
     }
 
     /// Reads an expression, and keeps its items.
-    fn expression(&mut self, draft: &mut Draft, word: TextWord<'_>) -> Result<Span, Failure> {
+    pub fn expression(&mut self, draft: &mut Draft, word: TextWord<'_>) -> Result<Span, Failure> {
         self.fill(word)?;
         let count = judge(self.field.as_slice(), word.place)?;
         let start = draft.items.len();
@@ -193,24 +177,16 @@ impl<'t> PartReader<'t> {
     }
 
     /// Reads one part and keeps it.
-    pub fn read(&mut self, draft: &mut Draft, words: PartWords<'_, '_>) -> Result<(), Failure>
-        ensures part { PartRead (finished (table_of self.old.macros)) (words_of words.entry.words.now) (next_of words.entry.next) draft.old draft.new result }
-        ensures macros { self.new.macros ≡ self.old.macros }
-    {
+    pub fn read(&mut self, draft: &mut Draft, words: PartWords<'_, '_>) -> Result<(), Failure> {
         let kind = kind_of(words.word(0)?)?;
         let word = words.word(1)?;
-        let name = new_name(draft.parts.as_slice(), word.text, word.place)?;
+        let name = draft.name(word)?;
         let body = match kind {
             Kind::Alu => self.alu(draft, words)?,
             Kind::Selector => self.selector(draft, words)?,
             Kind::Memory => self.memory(draft, words)?,
         };
-        draft.parts.push(Drafted {
-            name,
-            place: word.place,
-            body,
-        })?;
-        Ok(())
+        draft.add(name, word.place, body)
     }
 
     /// `A name function left right`
@@ -272,12 +248,12 @@ impl<'t> PartReader<'t> {
         let start = draft.first.len();
         match size {
             Size::Zeros(count) => {
-                claim_words(draft, count, word.place)?;
+                draft.claim_words(count, word.place)?;
                 words.ends(6)?;
                 zeros(draft, count)?;
             }
             Size::Given(count) => {
-                claim_words(draft, count, word.place)?;
+                draft.claim_words(count, word.place)?;
                 self.given(draft, words, count)?;
                 words.ends(count.saturating_add(6))?;
             }
