@@ -1,5 +1,5 @@
 -- What the parts that were read so far mean, and what they took of what is limited in a drawing.
-use Rattle.std.specs.Prelude.{◌≡◌, ℕ, List, [], ◌∷◌, map, reverse, vec_items, vec_len}
+use Rattle.std.specs.Prelude.{◌≡◌, ℕ, List, [], map, reverse, vec_items, vec_len}
 use Rattle.scan.specs.Names.{Bytes}
 use Rattle.scan.specs.NameBytes.{name_bytes}
 use Rattle.scan.specs.declared.names.Name.{Name}

@@ -1,5 +1,5 @@
 -- What the macros and the list of a drawing come to.
-use Rattle.std.specs.Prelude.{◌≡◌, List, [], ◌∷◌, ◌++◌, map, Ok, Err, vec_items, Result, Vec}
+use Rattle.std.specs.Prelude.{◌≡◌, List, [], ◌++◌, map, Ok, Err, vec_items, Result, Vec}
 use Rattle.std.specs.declared.alloc.Global.{Global}
 use Rattle.refusal.specs.Numbers.{number}
 use Rattle.refusal.specs.declared.kinds.Failure.{Failure}

@@ -1,5 +1,5 @@
 -- An order exists exactly if no node lies on a circle: along a chain the place in an order falls, and where no node reaches itself the nodes by rank are an order.
-use Rattle.std.proofs.Common.{◌≡◌, ℕ, ◌<◌, Bool, true, false, ◌⊎◌, List, [], ◌∷◌, length, get_or, sym, refl, ap, ◌∙◌, subst, inl, inr, ⊎_elim, arith}
+use Rattle.std.proofs.Common.{◌≡◌, ℕ, ◌<◌, Bool, true, false, List, [], ◌∷◌, length, get_or, sym, ◌∙◌, subst, ⊎_elim, arith}
 use Rattle.std.proofs.lemmas.Bool.{cases_Bool}
 use Rattle.graph.specs.Needs.{Chain, OnCircle, NoCircle, Orders, Exactly}
 use Rattle.graph.specs.Reach.{reaches, rank, layers}

@@ -1,7 +1,7 @@
 -- `reaches needs n` says whether a chain leads from one node to another: chains are joined at their inner nodes, the largest first.
-use Rattle.std.proofs.Common.{◌≡◌, ℕ, zero, suc, ◌<◌, ◌≤◌, Bool, true, false, ◌&&◌, ◌||◌, ◌⊎◌, List, [], ◌∷◌, ◌++◌, sym, refl, subst, inl, inr, ⊎_elim, arith}
+use Rattle.std.proofs.Common.{◌≡◌, ℕ, zero, suc, ◌<◌, ◌≤◌, Bool, true, ◌&&◌, ◌⊎◌, List, [], ◌∷◌, ◌++◌, subst, inl, inr, ⊎_elim, arith}
 use Rattle.std.proofs.lemmas.Bool.{or_cases, or_left, or_right, and_parts, and_from, cases_eq}
-use Rattle.graph.specs.Needs.{Arc, Chain, OnCircle}
+use Rattle.graph.specs.Needs.{Chain}
 use Rattle.graph.specs.Reach.{reaches}
 
 module _ (n : ℕ) (needs : ℕ → ℕ → Bool) where

@@ -1,5 +1,5 @@
 -- What the rows of `reached` give, since each place of the grid says whether a chain leads there: the least node on a circle, or an order.
-use Rattle.std.proofs.Common.{◌≡◌, ℕ, ◌<◌, Bool, true, false, List, length, get_or, Vec, sym, refl, ap, ◌∙◌, subst, arith}
+use Rattle.std.proofs.Common.{◌≡◌, ℕ, ◌<◌, Bool, true, false, List, length, get_or, Vec, sym, ap, ◌∙◌, subst, arith}
 use Rattle.std.proofs.lemmas.List.FromFn.{get_or-map-range_with_len, length-map-range_with_len}
 use Rattle.graph.specs.Grid.{table, grid, bits, cell}
 use Rattle.graph.specs.Needs.{Orders, NoCircle, LeastOnCircle}

@@ -1,5 +1,5 @@
 -- What a caller reads off the count of an expression's items: by the two cases of a judgement.
-use Rattle.std.proofs.Common.{◌≡◌, ℕ, List, length, refl, arith}
+use Rattle.std.proofs.Common.{◌≡◌, ℕ, length, refl, arith}
 use Rattle.scan.specs.Names.{Bytes}
 use Rattle.numbers.specs.Judged.{Judged, good, bad}
 use Rattle.verdict.specs.Items.{Expression}

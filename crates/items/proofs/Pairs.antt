@@ -1,5 +1,5 @@
 -- Two answers judged together mean what their meanings judged together are: by the four cases.
-use Rattle.std.proofs.Common.{◌≡◌, ℕ, Ok, Err, Result, sym, refl, ap, ◌∙◌}
+use Rattle.std.proofs.Common.{◌≡◌, Ok, Err, Result, refl, ap, ◌∙◌}
 use Rattle.refusal.specs.declared.kinds.Fault.{Fault}
 use Rattle.word.specs.declared.value.Word.{Word}
 use Rattle.numbers.specs.Judged.{Judged, good, bad, both}

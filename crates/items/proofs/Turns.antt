@@ -8,7 +8,7 @@ use Rattle.numbers.specs.Judged as judging
 use Rattle.numbers.specs.Judged.{Judged, good, bad, check, front, every}
 use Rattle.numbers.specs.Numbers.{sum}
 use Rattle.numbers.specs.Splits.{split}
-use Rattle.verdict.specs.Items.{Item, Expression, width, item, expression}
+use Rattle.verdict.specs.Items.{Expression, width, item, expression}
 use Rattle.items.specs.Meaning.{item_of}
 use Rattle.items.specs.Told.{in_turn, items_in_turn}
 

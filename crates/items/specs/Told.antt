@@ -7,7 +7,7 @@ use Rattle.scan.specs.declared.names.Name.{Name}
 use Rattle.circuit.specs.declared.parts.Item.{Item as CodeItem}
 use Rattle.numbers.specs.Judged.{Judged, good, bad, ◌>>=◌}
 use Rattle.numbers.specs.Splits.{split}
-use Rattle.verdict.specs.Items.{Item, Expression, item, expression}
+use Rattle.verdict.specs.Items.{Expression, item, expression}
 use Rattle.items.specs.Meaning.{item_of}
 use Rattle.items.specs.Least.{fault_number}
 

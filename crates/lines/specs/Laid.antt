@@ -1,5 +1,5 @@
 -- What a buffer holds once bytes are written into it.
-use Rattle.std.specs.Prelude.{◌≡◌, ℕ, ◌+◌, ◌^◌, min, List, [], ◌∷◌, length, slice_set}
+use Rattle.std.specs.Prelude.{◌≡◌, ℕ, ◌+◌, min, List, [], ◌∷◌, length, slice_set}
 
 -- the buffer once the bytes are written from the place `at` on; what is past its end is not written
 abbrev pub laid : ℕ → List ℕ → List ℕ → List ℕ

@@ -5,7 +5,7 @@ use Rattle.refusal.specs.declared.kinds.Failure.{Failure}
 use Rattle.refusal.specs.declared.kinds.Failure.TheVariants.{Refused, NoMemory}
 use Rattle.scan.specs.Names.{Bytes}
 use Rattle.scan.specs.Words.{Word, texts}
-use Rattle.verdict.specs.Items.{Item, constant, bits, Expression}
+use Rattle.verdict.specs.Items.{constant, bits, Expression}
 use Rattle.verdict.specs.Macros.{Table}
 use Rattle.verdict.specs.Parts.{Part, Reading, reads, refuses, lacks, claims, a_name, some_items, some_words, read_part}
 use Rattle.verdict.specs.Limits.{Taken}

@@ -1,5 +1,5 @@
 -- What is known of the bytes of a name: how many there are, and that each is below 128.
-use Rattle.std.proofs.Common.{◌≡◌, ℕ, zero, suc, ◌-◌, ◌<◌, ◌≤◌, true, false, ◌&&◌, leb, [], ◌∷◌, ◌++◌, length, get_or, take, drop, ap, ◌∙◌, ⊎_elim, arith, length-append, length-drop}
+use Rattle.std.proofs.Common.{◌≡◌, ℕ, zero, suc, ◌-◌, ◌<◌, ◌≤◌, true, ◌&&◌, leb, [], ◌∷◌, ◌++◌, length, get_or, take, drop, ap, ◌∙◌, ⊎_elim, arith, length-append, length-drop}
 use Rattle.std.proofs.lemmas.Bool.{and_parts, or_cases, leb-true, false≢true}
 use Rattle.std.proofs.lemmas.List.{take_at}
 use Rattle.scan.specs.Names.{Bytes, all, is_name, is_letter, is_digit, is_letter_or_digit}

@@ -10,7 +10,7 @@ use Rattle.verdict.specs.Limits.{nothing}
 use Rattle.verdict.specs.Sections.{word_from, Sections, sections}
 use Rattle.verdict.specs.Circles.{on_circle}
 use Rattle.verdict.specs.Circuit.{sorted, ranked, Circuit, circuit_of, needs}
-use Rattle.verdict.specs.Verdict.{Read, read, refuse, at, refuse_first, places, stop_at, check_macro_names, macro_table, macro_places, macro_needs, check_macros, entry, check_list, place_in, read_parts, list_places, part_places, check_among, check_expressions, check_whole, Drawn, drawn_parts, drawn_from, if_short, drawn, check_circles, accepted, unless, verdict_of}
+use Rattle.verdict.specs.Verdict.{Read, read, refuse, refuse_first, places, stop_at, check_macro_names, macro_table, macro_places, macro_needs, check_macros, entry, check_list, place_in, read_parts, list_places, part_places, check_among, check_expressions, check_whole, Drawn, drawn_parts, drawn_from, if_short, drawn, check_circles, accepted, unless, verdict_of}
 use Rattle.verdict.specs.Lines.{Reordered, part_texts, SameButOrder, Complete, AcceptedAlike}
 use Rattle.verdict.proofs.Orders.{map_reordered, sorted_reordered}
 use Rattle.verdict.proofs.Inversions.{read_same, bind_read}

@@ -8,7 +8,7 @@ use Rattle.numbers.specs.Judged.{Judged, good, check}
 use Rattle.verdict.specs.Letters.{is_part_letter}
 use Rattle.verdict.specs.Macros.{Table, names_of}
 use Rattle.verdict.specs.Parts.{Part, Claim, a_name, some_items, some_words, Reading, reads, refuses, lacks, claims, read_part}
-use Rattle.verdict.specs.Limits.{new_name, Taken, nothing, taking}
+use Rattle.verdict.specs.Limits.{new_name, Taken, taking}
 use Rattle.verdict.specs.Sections.{Next}
 use Rattle.verdict.specs.Verdict.{Read, read, ◌>>=◌, at, macro_name, check_macro_names, macro_table, entry, check_list, place_in, next_word, settle, read_parts, item_known, check_items, check_expressions}
 use Rattle.verdict.specs.Lines.{Reordered, keep, swap, twice}

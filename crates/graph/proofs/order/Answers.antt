@@ -1,7 +1,7 @@
 -- The grid of who reaches whom shows the least node on a circle, or that no node is on one and the nodes by rank are an order.
-use Rattle.std.proofs.Common.{◌≡◌, ℕ, List, length, get_or, ap, ◌∙◌, subst, rules}
+use Rattle.std.proofs.Common.{ap, ◌∙◌, rules}
 use Rattle.graph.specs.Grid.{bits}
-use Rattle.graph.specs.Reach.{reaches, layers}
+use Rattle.graph.specs.Reach.{reaches}
 use Rattle.graph.proofs.Found.{circle_found, order_found}
 use Rattle.graph.proofs.Lengths.{order_length}
 use Rattle.graph.proofs.Grids.{rows_square}

@@ -1,4 +1,4 @@
-use Rattle.std.proofs.Common.{◌≡◌, ◌+◌, ◌/◌, ◌%◌, ◌^◌, ◌<◌, [], ◌∷◌, ◌++◌, length, decimal, sym, subst, arith}
+use Rattle.std.proofs.Common.{◌^◌, ◌<◌, length, sym, subst, arith}
 use Rattle.std.proofs.lemmas.Fmt.{decimal_digit, decimal_step}
 use Rattle.lines.specs.Laid.{Put}
 use Rattle.lines.proofs.Lays.{puts_then}

@@ -1,4 +1,4 @@
-use Rattle.std.proofs.Common.{◌≡◌, ◌+◌, ◌^◌, ◌<◌, [], ◌∷◌, ◌++◌, length, get_or, take, sym, refl, ap, subst, arith}
+use Rattle.std.proofs.Common.{◌^◌, ◌<◌, length, sym, refl, subst, arith}
 use Rattle.std.proofs.lemmas.List.{take_more, take_all}
 use Rattle.lines.specs.Laid.{Put}
 use Rattle.lines.proofs.Lays.{puts_then}

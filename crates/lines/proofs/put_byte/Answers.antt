@@ -1,4 +1,4 @@
-use Rattle.std.proofs.Common.{◌≡◌, sym, refl, ◌∙◌, arith}
+use Rattle.std.proofs.Common.{sym, ◌∙◌, arith}
 use Rattle.lines.proofs.Lays.{set_past}
 use Rattle.lines.proofs.put_byte.Goals as goal
 use Rattle.lines.proofs.put_byte.Goals.{then-at-out, else-at-out}

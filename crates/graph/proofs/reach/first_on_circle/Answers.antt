@@ -1,5 +1,5 @@
 -- The place that is read in row a is the cell (a, a) of the grid, since the grid is square.
-use Rattle.std.proofs.Common.{◌≡◌, Bool, false, sym, ◌∙◌, arith, below_more}
+use Rattle.std.proofs.Common.{◌≡◌, false, sym, ◌∙◌, arith, below_more}
 use Rattle.graph.specs.Grid.{bits, cell}
 use Rattle.graph.proofs.Grids.{row_long, cell_read}
 use Rattle.graph.proofs.reach.first_on_circle.Goals as goal

@@ -1,5 +1,5 @@
 -- Each turn adds the next row of one node; all rows are as long as there are rows.
-use Rattle.std.proofs.Common.{◌≡◌, length, sym, ap, ◌∙◌, arith}
+use Rattle.std.proofs.Common.{length, sym, ap, ◌∙◌, arith}
 use Rattle.graph.specs.Grid.{table, bits, cell, through}
 use Rattle.graph.proofs.Grids.{row_read, row_long, next_is, bits_push}
 use Rattle.graph.proofs.reach.next_rows.Goals as goal

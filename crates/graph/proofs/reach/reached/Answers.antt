@@ -1,5 +1,5 @@
 -- Each round lets one inner node more in, and after all rounds every chain is counted.
-use Rattle.std.proofs.Common.{◌≡◌, vec_items, sym, ap, ◌∙◌, subst, arith}
+use Rattle.std.proofs.Common.{◌≡◌, vec_items, ap, ◌∙◌, subst, arith}
 use Rattle.graph.specs.Grid.{bits, grid}
 use Rattle.graph.specs.Reach.{reaches}
 use Rattle.graph.proofs.Grids.{rows_length, rows_square, grid_next}

@@ -1,5 +1,5 @@
 -- Both numbers are told by their contracts.
-use Rattle.std.proofs.Common.{◌≡◌, ap, ◌∙◌}
+use Rattle.std.proofs.Common.{ap, ◌∙◌}
 use Rattle.numbers.specs.Judged.{both}
 use Rattle.numbers.specs.Numbers.{number}
 use Rattle.numbers.specs.Answers.{judged_of}

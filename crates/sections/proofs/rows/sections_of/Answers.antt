@@ -1,5 +1,4 @@
 -- The macros' words come first, then two rows up to stops.
-use Rattle.std.proofs.Common.{◌∙◌}
 use native.Mathlib.Nat.{sub-zero}
 use Rattle.std.proofs.lemmas.List.{take_rest}
 use Rattle.sections.proofs.Cuts.{sections_cut, marked_macros}

@@ -1,6 +1,6 @@
 -- The bits of two words, joined by or or by exclusive or, are again bits of a word, so that the mask leaves them.
-use Rattle.std.proofs.Common.{◌^◌, ◌<◌, rules}
-use lib.Bits.{bit_or, bit_xor, or_lt, xor_lt}
+use Rattle.std.proofs.Common.{rules}
+use lib.Bits.{or_lt, xor_lt}
 use Rattle.word.proofs.functions.Function.apply.Goals as goal
 
 pub returns : goal.returns
