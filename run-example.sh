@@ -8,11 +8,12 @@
 set -eu
 root=$(cd "$(dirname "$0")" && pwd)
 drawing=${1:-$root/examples/count.txt}
+program=$root/crates/asimrun/out/asimrun
 if [ ! -r "$drawing" ]; then
     echo "run-example.sh: cannot read $drawing" >&2
     exit 2
 fi
-if [ ! -x "$root/target/bin/asimrun" ]; then
-    (cd "$root" && rt check asimrun) >&2
+if [ ! -x "$program" ]; then
+    (cd "$root/crates/asimrun" && rt run < "$root/examples/count.txt") >&2
 fi
-exec "$root/target/bin/asimrun" < "$drawing"
+exec "$program" < "$drawing"

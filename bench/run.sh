@@ -6,11 +6,11 @@
 set -euo pipefail
 cd "$(dirname "$0")/.."
 runs=${1:-5}
-program=target/bin/asimrun
+program=crates/asimrun/out/asimrun
 drawing=bench/panel44.txt
 
 if [ ! -x "$program" ]; then
-    echo "$program is missing: build it with 'rt check asimrun'" >&2
+    echo "$program is missing: build it with ./run-example.sh" >&2
     exit 2
 fi
 work=$(mktemp -d)

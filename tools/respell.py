@@ -12,7 +12,7 @@ import os
 import re
 
 WORD = re.compile(r"(?<![\w'\-])[A-Za-z_][\w'\-]*(?<!-)")
-DECLARED = re.compile(r"\s*(?:abbrev |unfoldable |irreducible |pub |record |data )*([^\s(){}:]+)\s*(?:[({][^)}]*[)}]\s*)*:\s")
+DECLARED = re.compile(r"\s*(?:abbrev |unfoldable |irreducible |pub |record |data )*([^\s(){}:]+(?: [^\s(){}:]+)*)\s*(?:[({][^)}]*[)}]\s*)*:\s")
 GHOST = re.compile(r"ghost (\w[\w-]*)\s*(?::|=)")
 # names that need a word of their own
 OWN = {"Open-at": "OpenAt", "put-in": "put_in_place", "getD-of-one": "get_or_of_one", "getD-places": "get_or_places"}
@@ -57,8 +57,9 @@ def declared():
         if declares(path):
             for line in lines_of_code(path, text):
                 m = DECLARED.match(line or "")
-                if m:
-                    found.setdefault(m.group(1), set()).add(path)
+                words = m.group(1).split() if m else []
+                for word in words if "let" not in words else []:
+                    found.setdefault(word, set()).add(path)
         elif path.endswith(".rt"):
             for m in GHOST.finditer(text):
                 found.setdefault(m.group(1), set()).add(path)
@@ -97,7 +98,7 @@ def main():
     for path in files():
         with open(path, encoding="utf-8") as f:
             text = f.read()
-        here = to | MORE.get(path, {})
+        here = to | (MORE.get(path, {}) if "nextWord" in to else {})
         mark = "--" if path.endswith(".antt") else "//"
         new = "\n".join(line if line.strip().startswith(mark) else turn(line, mark, here) for line in text.split("\n"))
         if new != text:

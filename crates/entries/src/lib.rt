@@ -1,7 +1,7 @@
 //! The macros and the list of a drawing.
 #![tactic(auto)]
 
-ghost use Rattle.std.specs.Prelude.{◌≡◌, ◌<◌, length};
+ghost use Rattle.std.specs.Prelude.{◌<◌, length};
 
 pub use draft::entry::Entry;
 use macros::table::Macros;

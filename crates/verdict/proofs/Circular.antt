@@ -1,4 +1,4 @@
--- A text that meets nothing else is refused as circular exactly if no order exists: the flags of `onCircle` are those of the nodes
+-- A text that meets nothing else is refused as circular exactly if no order exists: the flags of `on_circle` are those of the nodes
 -- on a circle, and without one an order exists.
 use Rattle.std.proofs.Common.{◌≡◌, ℕ, zero, suc, ◌<◌, Bool, true, false, leb, ◌⊎◌, List, [], ◌∷◌, map, length, get_or, sym, refl, ap, ◌∙◌, inl, inr, ⊎_elim, arith}
 use lib.ListN.{length-map}
@@ -31,7 +31,7 @@ AllDown fs = (i : ℕ) → get_or fs i false ≡ false
 FirstUp : List Bool → ℕ → Type 0
 FirstUp fs a = (a < length fs) × (get_or fs a false ≡ true) × ((b : ℕ) → b < a → get_or fs b false ≡ false)
 
--- what `refuseFirst` answers on as many flags as places
+-- what `refuse_first` answers on as many flags as places
 Answers : ℕ → List Bool → List ℕ → Type 0
 Answers m fs ps =
     (AllDown fs × (refuse_first m fs ps ≡ read tt))

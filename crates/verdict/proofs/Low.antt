@@ -10,7 +10,7 @@ use Rattle.verdict.specs.Letters.{is_part_letter}
 use Rattle.verdict.specs.Items.{width, low_bits, bits_of, binary_item, number_item, name_item, begins_number, item, expression}
 use Rattle.verdict.specs.Macros.{Table, names_of, finished, filled, all_known, field, expression_field, number_field, Size, zeros, given, size_number, size, size_field}
 use Rattle.verdict.specs.Parts as parts
-use Rattle.verdict.specs.Parts.{Claim, a_name, some_items, some_words, Reading, reads, refuses, lacks, claims, judged, word_at, ends_at, name_at, expression_in, expression_at, cases_from, has_case, numbers_from, first_words, Kind, anAlu, aSelector, a_memory, none, kind_of, read_kind, read_part}
+use Rattle.verdict.specs.Parts.{Claim, a_name, some_items, some_words, Reading, reads, refuses, lacks, claims, judged, word_at, ends_at, name_at, expression_in, expression_at, cases_from, has_case, numbers_from, first_words, Kind, an_alu, a_selector, a_memory, none, kind_of, read_kind, read_part}
 use Rattle.verdict.specs.Limits.{new_name, Taken, nothing, taking}
 use Rattle.verdict.specs.Sections.{Next, word_from, text_end, Sections, sections}
 use Rattle.verdict.specs.Circles.{on_circle}
@@ -194,13 +194,13 @@ first_words_r t ws (given n) = bind_r (numbers_from t ws 6 n) _ (numbers_from_r 
 
 read_kind_r : (k : Kind) (t : Table) (ws : List Bytes) → LowR (read_kind k t ws)
 read_kind_r none t ws = omega arith
-read_kind_r anAlu t ws =
+read_kind_r an_alu t ws =
     bind_r (name_at ws 1) _ (name_at_r ws 1) (λ n.
     bind_r (expression_at t ws 2) _ (expression_at_r t ws 2) (λ f.
     bind_r (expression_at t ws 3) _ (expression_at_r t ws 3) (λ l.
     bind_r (expression_at t ws 4) _ (expression_at_r t ws 4) (λ r.
     bind_r (ends_at ws 5) _ (ends_at_r ws 5) (λ u. tt)))))
-read_kind_r aSelector t ws =
+read_kind_r a_selector t ws =
     bind_r (name_at ws 1) _ (name_at_r ws 1) (λ n.
     bind_r (expression_at t ws 2) _ (expression_at_r t ws 2) (λ s.
     bind_r (has_case (drop 3 ws)) _ (has_case_r (drop 3 ws)) (λ u.

@@ -4,7 +4,7 @@ use Rattle.scan.specs.Names.{Bytes, before}
 use Rattle.scan.specs.Words.{Word, texts}
 use Rattle.verdict.specs.Macros.{Table, names_of, finished}
 use Rattle.verdict.specs.Parts as parts
-use Rattle.verdict.specs.Parts.{Part, Reading, reads, refuses, lacks, claims, Kind, anAlu, aSelector, a_memory, none, kind_of, read_kind, read_part, word_at, judged, ends_at, expression_at, has_case, cases_from, first_words}
+use Rattle.verdict.specs.Parts.{Part, Reading, reads, refuses, lacks, claims, Kind, an_alu, a_selector, a_memory, none, kind_of, read_kind, read_part, word_at, judged, ends_at, expression_at, has_case, cases_from, first_words}
 use Rattle.verdict.specs.Limits.{Taken, nothing, taking}
 use Rattle.verdict.specs.Sections.{Next, Sections, sections}
 use Rattle.verdict.specs.Circuit.{insert, sorted, rank_body, Circuit}
@@ -31,13 +31,13 @@ named_bind n (claims c i r) f h = named_bind n r f h
 read_kind_named : (k : Kind) (t : Table) (ws : List Bytes) → NamedBy (get_or ws 1 []) (read_kind k t ws)
 unfolding NamedBy
 read_kind_named none t ws = tt
-read_kind_named anAlu t [] = tt
-read_kind_named anAlu t (w ∷ []) = tt
-read_kind_named anAlu t (w ∷ n ∷ more) =
+read_kind_named an_alu t [] = tt
+read_kind_named an_alu t (w ∷ []) = tt
+read_kind_named an_alu t (w ∷ n ∷ more) =
     named_bind n (expression_at t (w ∷ n ∷ more) 2) _ (λ f. named_bind n (expression_at t (w ∷ n ∷ more) 3) _ (λ l. named_bind n (expression_at t (w ∷ n ∷ more) 4) _ (λ r. named_bind n (ends_at (w ∷ n ∷ more) 5) _ (λ u. refl))))
-read_kind_named aSelector t [] = tt
-read_kind_named aSelector t (w ∷ []) = tt
-read_kind_named aSelector t (w ∷ n ∷ more) =
+read_kind_named a_selector t [] = tt
+read_kind_named a_selector t (w ∷ []) = tt
+read_kind_named a_selector t (w ∷ n ∷ more) =
     named_bind n (expression_at t (w ∷ n ∷ more) 2) _ (λ s. named_bind n (has_case (drop 3 (w ∷ n ∷ more))) _ (λ u. named_bind n (cases_from t 3 (drop 3 (w ∷ n ∷ more))) _ (λ cs. refl)))
 read_kind_named a_memory t [] = tt
 read_kind_named a_memory t (w ∷ []) = tt

@@ -7,7 +7,7 @@ use Rattle.numbers.specs.Judged.{Judged, good, bad, check}
 use Rattle.verdict.specs.Items.{Expression}
 use Rattle.verdict.specs.Macros.{Table, Size, zeros, given, size_field, number_field, expression_field, names_of}
 use Rattle.verdict.specs.Parts as parts
-use Rattle.verdict.specs.Parts.{memory, Part, a_name, some_items, some_words, Reading, reads, refuses, lacks, claims, judged, word_at, ends_at, expression_in, expression_at, cases_from, has_case, numbers_from, first_words, Kind, anAlu, aSelector, a_memory, none, kind_of, read_kind, read_part}
+use Rattle.verdict.specs.Parts.{memory, Part, a_name, some_items, some_words, Reading, reads, refuses, lacks, claims, judged, word_at, ends_at, expression_in, expression_at, cases_from, has_case, numbers_from, first_words, Kind, an_alu, a_selector, a_memory, none, kind_of, read_kind, read_part}
 use Rattle.verdict.specs.Limits.{new_name, Taken, taking}
 use Rattle.verdict.specs.Sections.{Next, word_from, text_end}
 use Rattle.verdict.specs.Verdict.{read, at, place_in, next_word, settle, read_parts}
@@ -91,17 +91,17 @@ Named n p = p.0 ≡ n
 
 read_kind_opens : (k : Kind) (t : Table) (ws : List Bytes) → Opens (read_kind k t ws)
 read_kind_opens none t ws = tt
-read_kind_opens anAlu t [] = tt
-read_kind_opens anAlu t (w ∷ []) = tt
-read_kind_opens anAlu t (w ∷ n ∷ more) =
+read_kind_opens an_alu t [] = tt
+read_kind_opens an_alu t (w ∷ []) = tt
+read_kind_opens an_alu t (w ∷ n ∷ more) =
     let ws : List Bytes = w ∷ n ∷ more in
     ends_bind (Named n) (expression_at t ws 2) _ (expression_at_ends t ws 2) (λ f.
     ends_bind (Named n) (expression_at t ws 3) _ (expression_at_ends t ws 3) (λ l.
     ends_bind (Named n) (expression_at t ws 4) _ (expression_at_ends t ws 4) (λ r.
     ends_bind (Named n) (ends_at ws 5) _ (ends_at_ends ws 5) (λ u. refl))))
-read_kind_opens aSelector t [] = tt
-read_kind_opens aSelector t (w ∷ []) = tt
-read_kind_opens aSelector t (w ∷ n ∷ more) =
+read_kind_opens a_selector t [] = tt
+read_kind_opens a_selector t (w ∷ []) = tt
+read_kind_opens a_selector t (w ∷ n ∷ more) =
     let ws : List Bytes = w ∷ n ∷ more in
     ends_bind (Named n) (expression_at t ws 2) _ (expression_at_ends t ws 2) (λ s.
     ends_bind (Named n) (has_case (drop 3 ws)) _ (has_case_ends (drop 3 ws)) (λ u.

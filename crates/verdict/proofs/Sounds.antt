@@ -10,7 +10,7 @@ use Rattle.numbers.specs.Numbers.{sum}
 use Rattle.verdict.specs.Items.{constant, bits, Expression, width}
 use Rattle.verdict.specs.Macros.{Table, Size, zeros, given, expression_field, number_field, size_field}
 use Rattle.verdict.specs.Parts as parts
-use Rattle.verdict.specs.Parts.{memory, Part, a_name, some_items, some_words, Reading, reads, refuses, lacks, claims, judged, word_at, name_at, expression_in, expression_at, cases_from, has_case, numbers_from, first_words, Kind, anAlu, aSelector, a_memory, none, kind_of, read_kind, read_part}
+use Rattle.verdict.specs.Parts.{memory, Part, a_name, some_items, some_words, Reading, reads, refuses, lacks, claims, judged, word_at, name_at, expression_in, expression_at, cases_from, has_case, numbers_from, first_words, Kind, an_alu, a_selector, a_memory, none, kind_of, read_kind, read_part}
 use Rattle.verdict.specs.Limits.{Taken, taking}
 use Rattle.verdict.specs.Sections.{Next}
 use Rattle.verdict.specs.Circuit.{rank_in, rank_item, rank_expression, rank_body}
@@ -181,7 +181,7 @@ module _ (names : List Bytes) where
 
   read_kind_res : (t : Table) (k : Taken) (d : Kind) (ws : List Bytes) → Res (IsPart k) k (read_kind d t ws)
   read_kind_res t k none ws = tt
-  read_kind_res t k anAlu ws =
+  read_kind_res t k an_alu ws =
       res_bind (IsName k) (IsPart k) k (name_at ws 1) _ (name_at_res k ws 1) (λ n k₁ hn.
       res_bind (IsExpression k₁) (IsPart k) k₁ (expression_at t ws 2) _ (expression_at_res t k₁ ws 2) (λ f k₂ hf.
       res_bind (IsExpression k₂) (IsPart k) k₂ (expression_at t ws 3) _ (expression_at_res t k₂ ws 3) (λ l k₃ hl.
@@ -193,7 +193,7 @@ module _ (names : List Bytes) where
         items = omega (arith, hr.1.items, hl.1.items, hf.1.items, hn.1, length-map f (rank_item names), length-map l (rank_item names), length-map r (rank_item names));
         memory = omega (arith, hr.1.memory, hl.1.memory, hf.1.memory, hn.2);
       })))))
-  read_kind_res t k aSelector ws =
+  read_kind_res t k a_selector ws =
       res_bind (IsName k) (IsPart k) k (name_at ws 1) _ (name_at_res k ws 1) (λ n k₁ hn.
       res_bind (IsExpression k₁) (IsPart k) k₁ (expression_at t ws 2) _ (expression_at_res t k₁ ws 2) (λ s k₂ hs.
       has_case_res (IsPart k) k₂ (drop 3 ws) _ (λ some.

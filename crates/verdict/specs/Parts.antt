@@ -138,15 +138,15 @@ read_memory t ws = do
   reads (n, memory a d o vs)
 
 pub data Kind : Type 0 where
-  anAlu aSelector a_memory none : Kind
+  an_alu a_selector a_memory none : Kind
 
 -- A, S or M
 abbrev pub kind_of : Bytes → Kind
-kind_of w = cond (same w (65 ∷ [])) anAlu (cond (same w (83 ∷ [])) aSelector (cond (same w (77 ∷ [])) a_memory none))
+kind_of w = cond (same w (65 ∷ [])) an_alu (cond (same w (83 ∷ [])) a_selector (cond (same w (77 ∷ [])) a_memory none))
 
 abbrev pub read_kind : Kind → Table → List Bytes → Reading Part
-read_kind anAlu t ws = read_alu t ws
-read_kind aSelector t ws = read_selector t ws
+read_kind an_alu t ws = read_alu t ws
+read_kind a_selector t ws = read_selector t ws
 read_kind a_memory t ws = read_memory t ws
 read_kind none t ws = refuses 11 0
 
