@@ -35,11 +35,11 @@ pub enum Function {
     Less,
 }
 
-impl Function {
+impl From<u32> for Function {
+    ghost from_gives = { λ code function. function ≡ function_of code };
+
     /// The function of a code; a code that stands for none is that of `Zero`.
-    pub fn of_code(code: u32) -> Function
-        ensures { result ≡ function_of code }
-    {
+    fn from(code: u32) -> Function {
         match code {
             1 => Function::Right,
             2 => Function::Left,
@@ -56,7 +56,9 @@ impl Function {
             _ => Function::Zero,
         }
     }
+}
 
+impl Function {
     /// What the function makes of two words, modulo 2 to the power 31.
     pub fn apply(self, left: Word, right: Word) -> Word
         ensures { result.value ≡ apply self left.value right.value }
@@ -86,5 +88,5 @@ impl Function {
 pub fn alu(function: Word, left: Word, right: Word) -> Word
     ensures { result.value ≡ apply (function_of function.value) left.value right.value }
 {
-    Function::of_code(function.value).apply(left, right)
+    Function::from(function.value).apply(left, right)
 }

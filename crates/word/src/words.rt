@@ -34,3 +34,12 @@ impl Word {
         }
     }
 }
+
+/// The word 0.
+impl Default for Word {
+    ghost is_default = { λ word. word.value ≡ 0 };
+
+    fn default() -> Word {
+        Word::zero()
+    }
+}
