@@ -1,17 +1,11 @@
 //! What a circuit is made of.
+use scan::names::Name;
 use word::range::Range;
 use word::value::Word;
 use word::width::Width;
 
-/// Neighbours in a flat list: those from `start` up to `end`, which is left out.
-#[derive(Clone, Copy)]
-pub struct Span {
-    pub start: usize,
-    pub end: usize,
-}
-
 /// One item of an expression. Parts are told by `R`: by name in a text, by rank on a board.
-#[derive(Clone, Copy)]
+#[derive(Clone, Copy, Debug, PartialEq, Eq)]
 pub enum Item<R> {
     /// A constant of some bits.
     Constant(Word, Width),
@@ -19,19 +13,41 @@ pub enum Item<R> {
     Bits(R, Range),
 }
 
-/// What a part is. Expressions are spans of the circuit's items.
-#[derive(Clone, Copy)]
-pub enum Body {
-    /// A memory by its address, data and operation, and its first words as a span of the circuit's words.
-    Memory(Span, Span, Span, Span),
-    /// An ALU by its function and its left and right input.
-    Alu(Span, Span, Span),
-    /// A selector by its select field, and its cases as a span of the circuit's cases, which are expressions.
-    Selector(Span, Span),
+/// An expression on a board: its items, the highest first.
+pub type Expression = Vec<Item<usize>>;
+
+/// What a part is. Its expressions are of the type `E`.
+#[derive(Drop)]
+pub enum Body<E> {
+    /// A memory, with its first words.
+    Memory {
+        address: E,
+        data: E,
+        operation: E,
+        first: Vec<Word>,
+    },
+    /// An ALU.
+    Alu {
+        function: E,
+        left: E,
+        right: E,
+    },
+    /// A selector, with its cases.
+    Selector {
+        select: E,
+        cases: Vec<E>,
+    },
+}
+
+/// A part on a board.
+#[derive(Drop)]
+pub struct Part {
+    pub name: Name,
+    pub body: Body<Expression>,
 }
 
 /// A name of the drawing's list.
-#[derive(Clone, Copy)]
+#[derive(Clone, Copy, Debug, PartialEq, Eq)]
 pub struct Listed {
     /// The rank of the part of this name.
     pub rank: usize,
