@@ -1,41 +1,48 @@
 //! The parts that were read so far.
-use circuit::parts::{Body, Item, Span};
+use circuit::parts::{Body, Item};
 use names::new_name;
-use refusal::kinds::{Failure, Fault, Refusal};
+use refusal::kinds::{Fault, Refusal};
 use scan::names::Name;
 use scan::reader::TextWord;
-use word::value::Word;
 
 /// How many memory words a drawing may have, and a memory of it.
 pub const MOST_WORDS: usize = 4096;
 
+/// How many items a drawing may have.
+const MOST_ITEMS: usize = 2048;
+
+/// An expression in a text: its items, the highest first, and the place of its word.
+#[derive(Drop)]
+pub struct Field {
+    pub items: Vec<Item<Name>>,
+    pub place: usize,
+}
+
 /// A part, and the place of its name.
-#[derive(Clone, Copy)]
+#[derive(Drop)]
 pub struct Drafted {
     pub name: Name,
     pub place: usize,
-    pub body: Body,
+    pub body: Body<Field>,
 }
 
-/// A part's name in an expression, and the place of the field that it stands in.
-#[derive(Clone, Copy)]
-pub struct Reference {
-    pub name: Name,
-    pub place: usize,
-}
-
-/// The parts that were read so far, with what their expressions are made of.
+/// The parts that were read so far, and how much they took of what is limited in a drawing.
 #[derive(Drop)]
 pub struct Draft {
+    /// The parts in text order.
     pub parts: Vec<Drafted>,
-    /// The items of all expressions.
-    pub items: Vec<Item<Name>>,
-    /// The cases of all selectors.
-    pub cases: Vec<Span>,
-    /// The first words of all memories.
-    pub first: Vec<Word>,
-    /// The names in all expressions, in text order.
-    pub references: Vec<Reference>,
+    /// How many items all expressions have, of the part that is being read too.
+    pub items: usize,
+    /// How many words all memories have, of the part that is being read too.
+    pub words: usize,
+}
+
+/// What is taken with some more, unless that is over the most there may be.
+fn claimed(taken: usize, more: usize, most: usize, place: usize) -> Result<usize, Fault> {
+    match taken.checked_add(more) {
+        Some(total) if total <= most => Ok(total),
+        _ => Err(Refusal::OverLimit.at(place)),
+    }
 }
 
 impl Draft {
@@ -44,17 +51,15 @@ impl Draft {
         new_name(self.parts.as_slice(), word.text, word.place)
     }
 
-    /// One more part.
-    pub fn add(&mut self, name: Name, place: usize, body: Body) -> Result<(), Failure> {
-        self.parts.push(Drafted { name, place, body })?;
+    /// Takes so many items more, unless the drawing would have too many.
+    pub fn claim_items(&mut self, count: usize, place: usize) -> Result<(), Fault> {
+        self.items = claimed(self.items, count, MOST_ITEMS, place)?;
         Ok(())
     }
 
-    /// Makes sure that `count` more memory words may stand in the drawing.
-    pub fn claim_words(&self, count: usize, place: usize) -> Result<(), Fault> {
-        if self.first.len().saturating_add(count) > MOST_WORDS {
-            return Err(Refusal::OverLimit.at(place));
-        }
+    /// Takes so many memory words more, unless the drawing would have too many.
+    pub fn claim_words(&mut self, count: usize, place: usize) -> Result<(), Fault> {
+        self.words = claimed(self.words, count, MOST_WORDS, place)?;
         Ok(())
     }
 }

@@ -37,10 +37,8 @@ impl Draft {
     {
         Draft {
             parts: Vec::new(heap),
-            items: Vec::new(heap),
-            cases: Vec::new(heap),
-            first: Vec::new(heap),
-            references: Vec::new(heap),
+            items: 0,
+            words: 0,
         }
     }
 }

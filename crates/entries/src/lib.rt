@@ -1,8 +1,6 @@
 //! The macros and the list of a drawing.
 #![tactic(auto)]
 
-ghost use Rattle.std.specs.Prelude.{◌<◌, length};
-
 pub use draft::entry::Entry;
 use macros::table::Macros;
 use macros::uses::Macro;
@@ -14,25 +12,19 @@ use std::alloc::Global;
 
 /// One macro of two words beside those met, or nothing if the second word is missing: the text ends there. Its name is
 /// judged in both cases.
-fn defines<'t>(
-    met: &[Macro<'t>],
-    words: &[TextWord<'t>],
-    at: usize,
-) -> Result<Option<Macro<'t>>, Fault>
-    requires { at < length words.now }
-{
-    let first = words[at];
+fn defines<'t>(met: &[Macro<'t>], pair: &[TextWord<'t>]) -> Result<Option<Macro<'t>>, Fault> {
+    let [first, rest @ ..] = pair else {
+        return Ok(None);
+    };
     let name = after_mark(first.text);
     let _ = new_name(met, name, first.place)?;
-    if words.len() - at < 2 {
-        return Ok(None);
-    }
-    let second = words[at + 1];
-    Ok(Some(Macro {
-        name,
-        text: second.text,
-        place: first.place,
-    }))
+    Ok(
+        rest.first().map(|second| Macro {
+            name,
+            text: second.text,
+            place: first.place,
+        }),
+    )
 }
 
 /// A word without its first byte.
@@ -46,14 +38,10 @@ fn after_mark(text: &[u8]) -> &[u8] {
 /// The macros that a drawing defines: of the words of its first section, each two make one.
 fn defined<'t>(heap: Global, words: &[TextWord<'t>]) -> Result<Vec<Macro<'t>>, Failure> {
     let mut met: Vec<Macro<'t>> = Vec::new(heap);
-    let mut second = false;
-    for at in 0..words.len() {
-        if !second {
-            if let Some(one) = defines(met.as_slice(), words, at)? {
-                met.push(one)?;
-            }
+    for pair in words.chunks(2) {
+        if let Some(one) = defines(met.as_slice(), pair)? {
+            met.push(one)?;
         }
-        second = !second;
     }
     Ok(met)
 }
