@@ -1,5 +1,4 @@
 pub mod NameOrder
-pub mod NameSteps
 pub mod NameShape
 pub mod WordSteps
 pub mod Titles

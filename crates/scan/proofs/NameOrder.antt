@@ -1,6 +1,10 @@
 -- Why the order of names is strict and total: by the first byte in which two names differ.
-use Rattle.std.proofs.Common.{◌≡◌, ℕ, ◌<◌, true, false, ◌&&◌, eqb, ltb, ◌⊎◌, [], ◌∷◌, sym, refl, ◌∙◌, inl, inr, ⊎_elim, arith}
+use Rattle.std.proofs.Common.{◌≡◌, ℕ, ◌<◌, Bool, true, false, ◌&&◌, eqb, ltb, ◌⊎◌, [], ◌∷◌, sym, refl, ◌∙◌, inl, inr, ⊎_elim, arith, Some}
 use Rattle.std.proofs.lemmas.Bool.{ltb-true, le-ltb, lt-ltb, eqb-true, eq-eqb, and_parts, and_from, or_cases, or_left, or_right, or_from, and_right, cases_order}
+use Rattle.std.proofs.lemmas.Bool.Decides.{nat_tests}
+use Rattle.std.proofs.lemmas.Cmp.{same_from_slice_cmp, same_from_slice_cmp_tested}
+use Rattle.std.specs.Cmp.Lexicographic.{slice_cmp, slice_partial_cmp}
+use Rattle.std.specs.Ordering.{nat_cmp, is_lt, is_some_and}
 use Rattle.scan.specs.Names.{Bytes, same, before}
 use Rattle.scan.specs.NamesOrdered.{NamesOrdered}
 
@@ -60,3 +64,11 @@ self (x ∷ xs) = and_from (eqb x x) (same xs xs) (eq-eqb x x refl) (self xs)
 
 pub names_ordered : NamesOrdered
 names_ordered = record { never = never; onward = onward; total = total; told = told; self = self }
+
+-- the library's order of slices is this one
+pub slice_before : (xs ys : Bytes) (r : Bool) → r ≡ is_some_and is_lt (slice_partial_cmp (λ x y. Some (nat_cmp x y)) xs ys) → r ≡ before xs ys
+slice_before = same_from_slice_cmp_tested nat_cmp is_lt before refl (λ _ _. refl) (λ _ _. refl) (λ x y xs ys o h. grind (arith, nat_tests))
+
+-- and so is its order of texts
+pub text_before : (xs ys : Bytes) (r : Bool) → r ≡ is_some_and is_lt (Some (slice_cmp nat_cmp xs ys)) → r ≡ before xs ys
+text_before xs ys r h = h ∙ same_from_slice_cmp nat_cmp is_lt before refl (λ _ _. refl) (λ _ _. refl) (λ x y xs ys o h. grind (arith, nat_tests)) xs ys _ refl

@@ -1,16 +1,9 @@
--- What is known of the bytes of a name: how many there are, and that each is below 128.
-use Rattle.std.proofs.Common.{◌≡◌, ℕ, zero, suc, ◌-◌, ◌<◌, ◌≤◌, true, ◌&&◌, leb, [], ◌∷◌, ◌++◌, length, get_or, take, drop, ap, ◌∙◌, ⊎_elim, arith, length-append, length-drop}
-use Rattle.std.proofs.lemmas.Bool.{and_parts, or_cases, leb-true, false≢true}
-use Rattle.std.proofs.lemmas.List.{take_at}
+-- What is known of the bytes of a name: each is below 128, so they are text.
+use Rattle.std.proofs.Common.{◌≡◌, ℕ, zero, suc, ◌<◌, true, ◌&&◌, leb, [], ◌∷◌, length, get_or, ⊎_elim, arith}
+use Rattle.std.proofs.lemmas.Bool.{and_parts, or_cases, leb-true}
+use Rattle.std.proofs.lemmas.Str.{IsUtf8-from_ascii}
+use Rattle.std.specs.Str.{IsUtf8}
 use Rattle.scan.specs.Names.{Bytes, all, is_name, is_letter, is_digit, is_letter_or_digit}
-
-pub name_some : (bs : Bytes) → is_name bs ≡ true → 1 ≤ length bs
-name_some [] h = absurd (false≢true h)
-name_some (b ∷ bs) h = omega arith
-
-pub name_short : (bs : Bytes) → is_name bs ≡ true → length bs ≤ 16
-name_short [] h = omega arith
-name_short (b ∷ bs) h = omega (arith, leb-true (length bs) 15 (and_parts (is_letter b && all is_letter_or_digit bs) (leb (length bs) 15) h).1)
 
 -- a test of both ends bounds a byte from above
 ends_low : (low high b : ℕ) → high < 128 → (leb low b && leb b high) ≡ true → b < 128
@@ -35,9 +28,5 @@ name_low [] h k = omega arith
 name_low (b ∷ bs) h zero = letter_low b (letters b bs h).0
 name_low (b ∷ bs) h (suc k) = all_low bs (letters b bs h).1 k
 
--- bytes laid over the front of a list stand there, and the list is as long as it was
-pub laid : (front text rest : Bytes) → front ≡ text → take (length text) (front ++ rest) ≡ text
-laid front text rest e = take_at front rest (length text) (ap length e) ∙ e
-
-pub laid_length : (front text over : Bytes) → front ≡ text → length text ≤ length over → length (front ++ drop (length text - 0) over) ≡ length over
-laid_length front text over e h = simp (length-append, length-drop) (omega (arith, ap length e))
+pub name_utf8 : (bs : Bytes) → is_name bs ≡ true → IsUtf8 bs
+name_utf8 bs h = IsUtf8-from_ascii bs (name_low bs h)

@@ -1,21 +1,14 @@
--- What one byte tells of where the title ends.
-use Rattle.std.proofs.Common.{◌≡◌, ℕ, suc, ◌+◌, ◌<◌, ◌≤◌, cond, eqb, length, get_or, drop, ap, ◌∙◌}
-use Rattle.std.proofs.lemmas.List.{drop_more, drop_all}
-use Rattle.std.proofs.lemmas.Bool.{eq-eqb, ne_eqb}
+-- Where the title ends, told by the first byte 10.
+use Rattle.std.proofs.Common.{◌≡◌, ℕ, ◌+◌, min, eqb, length, [], ◌∷◌, Option, refl, MatchOption, arith}
+use Rattle.std.specs.List.{position, position_or_len}
+use Rattle.std.proofs.lemmas.Bool.Decides.{nat_tests}
 use Rattle.scan.specs.Names.{Bytes}
 use Rattle.scan.specs.Words.{title_length}
 
-one : (t : Bytes) (p : ℕ) → p < length t → title_length (drop p t) ≡ cond (eqb (get_or t p 0) 10) 1 (suc (title_length (drop (p + 1) t)))
-one t p h = ap title_length (drop_more t p 0 h)
+least : (t : Bytes) → title_length t ≡ min (position_or_len (λ b. eqb b 10) t + 1) (length t)
+least [] = refl
+least (b ∷ bs) = let later : title_length bs ≡ min (position_or_len (λ b. eqb b 10) bs + 1) (length bs) = least bs in grind (arith, nat_tests)
 
--- byte 10 ends it
-pub title_ends : (t : Bytes) (p : ℕ) → p < length t → get_or t p 0 ≡ 10 → title_length (drop p t) ≡ 1
-title_ends t p h e = one t p h ∙ ap (λ b. cond b 1 (suc (title_length (drop (p + 1) t)))) (eq-eqb (get_or t p 0) 10 e)
-
--- any other byte does not
-pub title_goes_on : (t : Bytes) (p : ℕ) → p < length t → (get_or t p 0 ≡ 10 → ⊥) → title_length (drop p t) ≡ suc (title_length (drop (p + 1) t))
-title_goes_on t p h n = one t p h ∙ ap (λ b. cond b 1 (suc (title_length (drop (p + 1) t)))) (ne_eqb (get_or t p 0) 10 n)
-
--- nor does the text's end
-pub title_all : (t : Bytes) (p : ℕ) → length t ≤ p → title_length (drop p t) ≡ 0
-title_all t p h = ap title_length (drop_all p t h)
+-- just after the first byte 10, or at the text's end where there is none
+pub title_found : (t : Bytes) (found : Option ℕ) → found ≡ position (λ b. eqb b 10) t → MatchOption found (title_length t ≡ length t) (λ place. title_length t ≡ place + 1)
+title_found t found e = let told : title_length t ≡ min (position_or_len (λ b. eqb b 10) t + 1) (length t) = least t in grind (arith, nat_tests)

@@ -1,5 +1,7 @@
 -- Names: which bytes make one, and their order.
 use Rattle.std.specs.Prelude.{ℕ, Bool, true, false, ◌&&◌, ◌||◌, List, [], ◌∷◌, length, ◌==◌, nat_le, nat_lt}
+-- each element passes
+pub use Rattle.std.specs.List.{list_all as all}
 
 abbrev pub Bytes : Type 0
 Bytes = List ℕ
@@ -14,11 +16,6 @@ is_digit b = nat_le 48 b && nat_le b 57
 
 abbrev pub is_letter_or_digit : ℕ → Bool
 is_letter_or_digit b = is_letter b || is_digit b
-
--- each element passes
-abbrev pub all : {X : Type 0} → (X → Bool) → List X → Bool
-all p [] = true
-all p (x ∷ xs) = p x && all p xs
 
 -- a letter and then letters and digits, at most 16 bytes
 abbrev pub is_name : Bytes → Bool

@@ -10,36 +10,33 @@ pub const NAME_BYTES: usize = 16;
 pub fn is_letter(byte: u8) -> bool
     ensures { result ≡ is_letter byte }
 {
-    matches!(byte, b'A'..=b'Z' | b'a'..=b'z')
+    byte.is_ascii_alphabetic()
 }
 
 /// Whether the byte is a letter or one of 0 to 9.
 pub fn is_letter_or_digit(byte: u8) -> bool
     ensures { result ≡ is_letter_or_digit byte }
 {
-    is_letter(byte) || matches!(byte, b'0'..=b'9')
+    byte.is_ascii_alphanumeric()
 }
 
 /// Whether each of the bytes is a letter or a digit.
 fn are_letters_or_digits(text: &[u8]) -> bool
     ensures { result ≡ all is_letter_or_digit text.now }
 {
-    for byte in text {
-        if !is_letter_or_digit(*byte) {
-            return false;
-        }
-    }
-    true
+    text.iter().all(|byte| is_letter_or_digit(*byte))
 }
 
 /// Whether the bytes make a name: a letter and then letters and digits, at most 16 bytes.
 pub fn is_name(text: &[u8]) -> bool
     ensures { result ≡ is_name text.now }
 {
-    if text.is_empty() || text.len() > NAME_BYTES {
-        return false;
+    match text {
+        [first, rest @ ..] => {
+            is_letter(*first) && are_letters_or_digits(rest) && text.len() <= NAME_BYTES
+        }
+        [] => false,
     }
-    is_letter(text[0]) && are_letters_or_digits(&text[1..])
 }
 
 /// Whether the two are the same bytes.
@@ -51,21 +48,15 @@ pub fn is_same(one: &[u8], other: &[u8]) -> bool
 
 /// Whether the one comes before the other: by the first byte in which they differ, and where there is none,
 /// the one that begins the other comes first.
+#[tactic(auto, using(crate::proofs::NameOrder::slice_before))]
 pub fn is_before(one: &[u8], other: &[u8]) -> bool
     ensures { result ≡ before one.now other.now }
 {
-    let shared = one.len().min(other.len());
-    for place in 0..shared {
-        if one[place] != other[place] {
-            return one[place] < other[place];
-        }
-    }
-    one.len() < other.len()
+    one < other
 }
 
 /// Carries the theorem on the order of names.
-pub fn names_ordered() -> u8
+#[tactic(auto, using(crate::proofs::NameOrder::names_ordered))]
+pub fn names_ordered()
     ensures { NamesOrdered }
-{
-    0
-}
+{}

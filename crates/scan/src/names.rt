@@ -1,17 +1,15 @@
 //! A name that owns its bytes.
-ghost use Rattle.std.specs.Prelude.{◌≡◌, ◌≤◌, true, length, take};
+ghost use Rattle.std.specs.Prelude.{◌≡◌, true};
 ghost use Rattle.scan.specs.Names.{is_name};
 
 use crate::bytes::NAME_BYTES;
+use arrayvec::ArrayString;
 
 pub mod reads;
 
-/// A name: the first `count` bytes of `bytes`.
-#[derive(Clone, Copy)]
+/// A name.
+#[derive(Clone, Copy, Debug, PartialEq, Eq, PartialOrd, Ord)]
 pub struct Name {
-    bytes: [u8; NAME_BYTES],
-    count: usize,
-    ghost room: { length bytes ≡ 16 },
-    ghost short: { count ≤ 16 },
-    ghost named: { is_name (take count bytes) ≡ true },
+    text: ArrayString<NAME_BYTES>,
+    ghost named: { is_name text.bytes ≡ true },
 }

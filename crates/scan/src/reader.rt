@@ -7,7 +7,7 @@ use crate::scanner::Scanner;
 pub mod reads;
 
 /// A word of a text.
-#[derive(Clone, Copy)]
+#[derive(Clone, Copy, Debug, PartialEq, Eq)]
 pub struct TextWord<'a> {
     /// The word's bytes, a piece of the text.
     pub text: &'a [u8],
@@ -16,7 +16,7 @@ pub struct TextWord<'a> {
 }
 
 /// A text, read up to the place `at`.
-#[derive(Drop)]
+#[derive(Debug, Drop)]
 pub struct Reader<'a> {
     text: &'a [u8],
     at: usize,

@@ -3,8 +3,10 @@ ghost use Rattle.std.specs.Prelude.{◌≡◌};
 ghost use Rattle.scan.specs.Words.{between, after, class_of};
 ghost use Rattle.scan.specs.Scanning.{where_of, ends, ends_last};
 
+use std::mem;
+
 /// What a byte is to the scan.
-#[derive(Clone, Copy)]
+#[derive(Clone, Copy, Debug, PartialEq, Eq)]
 pub enum Class {
     /// A tab, a line feed, a carriage return or a space, which part words.
     Blank,
@@ -16,8 +18,21 @@ pub enum Class {
     Other,
 }
 
+impl From<u8> for Class {
+    ghost from_gives = { λ b r. r ≡ class_of b };
+
+    fn from(byte: u8) -> Class {
+        match byte {
+            b'\t' | b'\n' | b'\r' | b' ' => Class::Blank,
+            b'{' => Class::Open,
+            b'}' => Class::Close,
+            _ => Class::Other,
+        }
+    }
+}
+
 /// Where a scan stands.
-#[derive(Clone, Copy)]
+#[derive(Clone, Copy, Debug, PartialEq, Eq)]
 pub(crate) enum State {
     /// Between words.
     Between,
@@ -28,21 +43,9 @@ pub(crate) enum State {
 }
 
 /// A scan of a text, which is told of each byte in turn.
-#[derive(Clone, Copy)]
+#[derive(Clone, Copy, Debug, PartialEq, Eq)]
 pub(crate) struct Scanner {
     state: State,
-}
-
-/// The class of a byte.
-pub fn class_of(byte: u8) -> Class
-    ensures { result ≡ class_of byte }
-{
-    match byte {
-        b'\t' | b'\n' | b'\r' | b' ' => Class::Blank,
-        b'{' => Class::Open,
-        b'}' => Class::Close,
-        _ => Class::Other,
-    }
 }
 
 impl Scanner {
@@ -61,13 +64,12 @@ impl Scanner {
         ensures answers { result ≡ ends (where_of self.old.state) class }
     {
         match (self.state, class) {
-            (State::Between, Class::Blank) => None,
-            (State::Between, Class::Open) => {
-                self.state = State::InComment;
+            (State::Between, Class::Close | Class::Other) => {
+                self.state = State::InWord(at);
                 None
             }
-            (State::Between, Class::Close) | (State::Between, Class::Other) => {
-                self.state = State::InWord(at);
+            (State::Between, Class::Open) => {
+                self.state = State::InComment;
                 None
             }
             (State::InWord(from), Class::Blank) => {
@@ -78,12 +80,13 @@ impl Scanner {
                 self.state = State::InComment;
                 Some(from)
             }
-            (State::InWord(_), Class::Close) | (State::InWord(_), Class::Other) => None,
             (State::InComment, Class::Close) => {
                 self.state = State::Between;
                 None
             }
-            (State::InComment, _) => None,
+            (State::Between, Class::Blank)
+            | (State::InWord(_), Class::Close | Class::Other)
+            | (State::InComment, _) => None,
         }
     }
 
@@ -92,9 +95,7 @@ impl Scanner {
         ensures moves { where_of self.new.state ≡ between }
         ensures answers { result ≡ ends_last (where_of self.old.state) }
     {
-        let state = self.state;
-        self.state = State::Between;
-        match state {
+        match mem::replace(&mut self.state, State::Between) {
             State::InWord(from) => Some(from),
             State::Between | State::InComment => None,
         }

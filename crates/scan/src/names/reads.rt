@@ -4,23 +4,26 @@ ghost use Rattle.scan.specs.Names.{is_name, same, before};
 ghost use Rattle.scan.specs.NameBytes.{name_bytes};
 
 use super::Name;
-use crate::bytes::{NAME_BYTES, is_before, is_name, is_same};
+use crate::bytes::is_name;
+use arrayvec::ArrayString;
+use std::str;
 
 impl Name {
     /// The name of these bytes, if they make one.
+    #[tactic(auto, using(crate::proofs::NameShape::name_utf8))]
     pub fn read(text: &[u8]) -> Option<Name>
         ensures { MatchOption result (is_name text.now ≡ false) (λ n. (is_name text.now ≡ true) × (name_bytes n ≡ text.now)) }
     {
         if !is_name(text) {
             return None;
         }
-        let mut bytes = [0; NAME_BYTES];
-        let count = text.len();
-        bytes[0..count].copy_from_slice(text);
-        Some(Name { bytes, count })
+        let text = str::from_utf8(text).ok()?;
+        let text = ArrayString::from(text).ok()?;
+        Some(Name { text })
     }
 
     /// The bytes of the name: 1 to 16 of them, each below 128.
+    #[tactic(auto, using(crate::proofs::NameShape::name_low))]
     pub fn as_bytes(&self) -> &[u8]
         ensures value { result.now ≡ name_bytes self.now }
         ensures named { is_name result.now ≡ true }
@@ -28,20 +31,21 @@ impl Name {
         ensures short { length result.now ≤ 16 }
         ensures low { (k : ℕ) → slice_index result.now k < 128 }
     {
-        &self.bytes[0..self.count]
+        self.text.as_str().as_bytes()
     }
 
     /// Whether the two have the same bytes.
     pub fn is_same(&self, other: &Name) -> bool
         ensures { result ≡ same (name_bytes self.now) (name_bytes other.now) }
     {
-        is_same(self.as_bytes(), other.as_bytes())
+        self == other
     }
 
     /// Whether this one comes before the other.
+    #[tactic(auto, using(crate::proofs::NameOrder::text_before))]
     pub fn is_before(&self, other: &Name) -> bool
         ensures { result ≡ before (name_bytes self.now) (name_bytes other.now) }
     {
-        is_before(self.as_bytes(), other.as_bytes())
+        self < other
     }
 }

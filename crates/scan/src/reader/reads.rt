@@ -1,14 +1,16 @@
 //! The words of a text, one after the other.
-ghost use Rattle.std.specs.Prelude.{◌≡◌, ◌+◌, ◌≤◌, [], ◌∷◌, length, IfSome, MatchOption};
+ghost use Rattle.std.specs.Prelude.{◌≡◌, ◌+◌, ◌≤◌, length};
+ghost use Rattle.std.specs.Iterator.{item_count};
 ghost use Rattle.scan.specs.Words.{cut, words_after, title_length, words};
 ghost use Rattle.scan.specs.WordsStand.{WordsStand};
-ghost use Rattle.scan.specs.Reading.{reader_text, left, word_of};
+ghost use Rattle.scan.specs.Reading.{reader_text, left, word_of, HandsOut};
 
 use super::{Reader, TextWord};
-use crate::scanner::{Scanner, class_of};
+use crate::scanner::{Class, Scanner};
 
 impl<'a> Reader<'a> {
     /// A reader that begins between words at the place `from`. A place past the text's end counts as the end.
+    #[tactic(auto, using(crate::proofs::WordSteps::starts))]
     pub fn new(text: &'a [u8], from: usize) -> Reader<'a>
         ensures whole { reader_text result ≡ text.now }
         ensures left { left result ≡ words_after text.now from }
@@ -26,25 +28,26 @@ impl<'a> Reader<'a> {
     {
         self.text
     }
+}
+
+impl<'a> Iterator for Reader<'a> {
+    type Item = TextWord<'a>;
+
+    ghost next_gives = { HandsOut };
+
+    ghost remaining = { item_count left };
 
     /// The next word, or none where no more is left.
-    pub fn next(&mut self) -> Option<TextWord<'a>>
-        ensures whole { reader_text self.new ≡ reader_text self.old }
-        ensures word { MatchOption result ((left self.old ≡ []) × (left self.new ≡ [])) (λ w. left self.old ≡ word_of w ∷ left self.new) }
-        ensures within { IfSome result (λ w. w.place + length w.text.now ≤ length (reader_text self.old)) }
-    {
-        while self.at < self.text.len() {
+    fn next(&mut self) -> Option<TextWord<'a>> {
+        while let Some(byte) = self.text.get(self.at) {
             let at = self.at;
             self.at += 1;
-            let class = class_of(self.text[at]);
-            if let Some(from) = self.scanner.pass(class, at) {
+            if let Some(from) = self.scanner.pass(Class::from(*byte), at) {
                 return Some(word_at(self.text, from, at));
             }
         }
-        match self.scanner.finish() {
-            Some(from) => Some(word_at(self.text, from, self.at)),
-            None => None,
-        }
+        let from = self.scanner.finish()?;
+        Some(word_at(self.text, from, self.at))
     }
 }
 
@@ -65,12 +68,10 @@ pub fn title_end(text: &[u8]) -> usize
     ensures value { result ≡ title_length text.now }
     ensures within { result ≤ length text.now }
 {
-    for (place, byte) in text.iter().enumerate() {
-        if *byte == b'\n' {
-            return place + 1;
-        }
+    match text.iter().position(|byte| *byte == b'\n') {
+        Some(place) => place + 1,
+        None => text.len(),
     }
-    text.len()
 }
 
 /// A reader of the words of a drawing's text, which begin after the title.
@@ -82,8 +83,7 @@ pub fn drawing_words(text: &[u8]) -> Reader<'_>
 }
 
 /// Carries the theorem on what the words of a text are.
-pub fn words_stand() -> u8
+#[tactic(auto, using(crate::proofs::WordsFound::words_stand))]
+pub fn words_stand()
     ensures { WordsStand }
-{
-    0
-}
+{}

@@ -1,19 +1,16 @@
--- Byte 10 ends the title, and any other byte makes it one longer.
-use Rattle.std.proofs.Common.{arith}
-use Rattle.scan.proofs.Titles.{title_ends, title_goes_on, title_all}
+-- The first byte 10 ends the title.
+use Rattle.std.proofs.Common.{eqb, sym, Some, None, rules, tests}
+use Rattle.std.proofs.lemmas.Iterator.{YieldsList-from_slice}
+use Rattle.std.proofs.lemmas.Iterator.Search.{position_from_yields_List}
+use Rattle.scan.proofs.Titles.{title_found}
 use Rattle.scan.proofs.reader.reads.title_end.Goals as goal
 
-pub returns-then-byte-eq10 : goal.returns-then-byte-eq10
-returns-then-byte-eq10 c = record {
-  value = omega (arith, title_ends c.args.text.now c.loop-place.place (omega arith) c.if-byte-eq10.true, c.loop-place.invariant);
-  within = omega arith;
-}
+pub returns-in-Some-clause-value : goal.returns-in-Some-clause-value
+returns-in-Some-clause-value c =
+    let found = position_from_yields_List (λ b. eqb b 10) _ _ c.position.result c.position.ensures.ran (YieldsList-from_slice c.args.text.now cc) (λ x b q k. search (rules, tests)) in
+    sym (title_found c.args.text.now (Some c.in-Some.place) (cc))
 
-pub loop-place-preserved : goal.loop-place-preserved
-loop-place-preserved c = omega (arith, title_goes_on c.args.text.now c.loop-place.place (omega arith) c.if-byte-eq10.false, c.loop-place.invariant)
-
-pub returns : goal.returns
-returns c = record {
-  value = omega (arith, title_all c.args.text.now c.loop-place.place (omega arith), c.loop-place.invariant);
-  within = omega arith;
-}
+pub returns-in-None-clause-value : goal.returns-in-None-clause-value
+returns-in-None-clause-value c =
+    let found = position_from_yields_List (λ b. eqb b 10) _ _ c.position.result c.position.ensures.ran (YieldsList-from_slice c.args.text.now cc) (λ x b q k. search (rules, tests)) in
+    sym (title_found c.args.text.now None (cc))
