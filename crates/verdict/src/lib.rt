@@ -8,71 +8,61 @@ ghost use Rattle.verdict.specs.Bench.{BenchCases};
 ghost use Rattle.verdict.specs.Sound.{ReadsBack, AcceptedSound, ListingAccepted};
 
 /// Two accepted texts that differ only in the order of their parts give one circuit.
-pub fn lines_mean_nothing() -> u8
+pub fn lines_mean_nothing()
     ensures { LinesMeanNothing }
 {
-    0
 }
 
 /// Texts of the same words get the same verdict, whatever their titles, blanks and comments: one circuit, or one refusal at one word.
-pub fn blanks_mean_nothing() -> u8
+pub fn blanks_mean_nothing()
     ensures { BlanksMeanNothing }
 {
-    0
 }
 
 /// A text is refused as circular exactly if it meets nothing else and no order of its parts exists.
-pub fn circular_exactly() -> u8
+pub fn circular_exactly()
     ensures { CircularExactly }
 {
-    0
 }
 
 /// Where the macros meet no refusal, a field says one thing with all its macros put in, and is judged by its first 1,024 bytes.
-pub fn macros_put_in() -> u8
+pub fn macros_put_in()
     ensures { MacrosPutIn }
 {
-    0
 }
 
 /// The places that a refused circle is told at go with the circuit's parts.
-pub fn names_by_rank() -> u8
+pub fn names_by_rank()
     ensures { NamesByRank }
 {
-    0
 }
 
 /// A text that differs from an accepted one only in the order of its parts is accepted as the same circuit.
-pub fn accepted_alike() -> u8
+pub fn accepted_alike()
     ensures { AcceptedAlike }
 {
-    0
 }
 
 /// The listing of a sound circuit is accepted as that circuit.
-pub fn reads_back() -> u8
+pub fn reads_back()
     ensures { ReadsBack }
 {
-    0
 }
 
 /// Every accepted circuit is sound.
-pub fn accepted_sound() -> u8
+pub fn accepted_sound()
     ensures { AcceptedSound }
 {
-    0
 }
 
 /// The listing of an accepted circuit is accepted as that circuit.
-pub fn listing_accepted() -> u8
+pub fn listing_accepted()
     ensures { ListingAccepted }
 {
-    0
 }
 
 /// Some numbers, expressions and drawings mean what they should.
-pub fn bench_cases_stand() -> u8
+pub fn bench_cases_stand()
     ensures { BenchCases }
 {
-    0
 }
