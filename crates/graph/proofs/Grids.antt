@@ -1,6 +1,8 @@
 -- Tables and grids place by place: one entry more, what stands where, tables that agree, and one round more.
-use Rattle.std.proofs.Common.{◌≡◌, ℕ, suc, ◌+◌, ◌<◌, Bool, false, ◌&&◌, ◌||◌, List, [], ◌∷◌, ◌++◌, length, get_or, vec_items, Vec, sym, ap, ◌∙◌, subst, ap₂, add-one, arith}
-use Rattle.std.proofs.lemmas.List.FromFn.{map-range_with_len_more, get_or-map-range_with_len, length-map-range_with_len}
+use Rattle.std.proofs.Common.{◌≡◌, ℕ, suc, ◌+◌, ◌<◌, Bool, false, ◌&&◌, ◌||◌, List, [], ◌∷◌, ◌++◌, map, length, get_or, vec_items, Vec, sym, ap, ◌∙◌, subst, ap₂, add-one, arith}
+use Rattle.std.specs.List.{zip}
+use Rattle.std.proofs.lemmas.List.FromFn.{map-range_with_len_more, get_or-map-range_with_len, length-map-range_with_len, fill_by_all}
+use Rattle.std.proofs.lemmas.Slice.Zip.{get_or-zip, length-zip}
 use Rattle.std.proofs.lemmas.List.{map_push, same_lists, length-map, get_or-map, get_or_read}
 use Rattle.graph.specs.Grid.{table, grid, bits, cell, Square, through}
 use Rattle.graph.specs.Reach.{reaches}
@@ -46,6 +48,15 @@ module _ {Z : Type 0} (rows : List (Vec Bool Z)) (i : ℕ) (x : Vec Bool Z) (l :
   pub cell_read : Square (bits rows) → (j : ℕ) (b : Bool) → j < length rows → b ≡ get_or (vec_items x) j b → b ≡ cell (bits rows) i j
   cell_read square j b lj r =
       get_or_read (vec_items x) j b (omega (arith, row_long square)) r false ∙ ap (λ v. get_or v j false) row_read
+
+-- two rows of one length, joined place by place
+pub row_joined : (row via : List Bool) (joins : Bool) → length via ≡ length row → map (λ p. p.0 || (joins && p.1)) (zip row via) ≡ table (length row) (λ j. get_or row j false || (joins && get_or via j false))
+row_joined row via joins same =
+    fill_by_all (λ j. get_or row j false || (joins && get_or via j false)) (map (λ p. p.0 || (joins && p.1)) (zip row via)) (length row) false
+    (omega (arith, length-map (zip row via) (λ (p : Bool × Bool). p.0 || (joins && p.1)), length-zip row via))
+    (λ k l.
+    get_or-map (λ p. p.0 || (joins && p.1)) (zip row via) k (false, false) false (omega (arith, length-zip row via))
+    ∙ ap (λ p. p.0 || (joins && p.1)) (get_or-zip row via k (false, false) l (omega arith)))
 
 -- the row that `next_row` makes of the rows i and k
 pub next_is : {Z : Type 0} (rows : List (Vec Bool Z)) (i k : ℕ) (ri rk v : List Bool) → ri ≡ get_or (bits rows) i [] → rk ≡ get_or (bits rows) k [] → length ri ≡ length rows → v ≡ table (length ri) (λ j. get_or ri j false || (get_or ri k false && get_or rk j false)) → v ≡ table (length rows) (through (cell (bits rows)) k i)

@@ -61,18 +61,14 @@ impl<T: Drop> From<AllocFailed<T>> for OrderFault {
 }
 
 /// An order exists exactly if no node lies on a circle.
-pub fn orders_stand() -> u8
+pub fn orders_stand()
     ensures { Exactly }
-{
-    0
-}
+{}
 
 /// Evaluation along an order solves the equations of the nodes, and nothing else solves them.
-pub fn solutions_stand<V>() -> u8
+pub fn solutions_stand<V>()
     ensures { Solved V }
-{
-    0
-}
+{}
 
 /// Lists each node after all those that it needs, or names the least node that lies on a circle.
 pub fn order<G: Graph>(heap: Global, g: &G) -> Result<Vec<usize>, OrderFault>
@@ -84,6 +80,5 @@ pub fn order<G: Graph>(heap: Global, g: &G) -> Result<Vec<usize>, OrderFault>
         return Err(OrderFault::Circle(a));
     }
     let ranks = ranks_of(heap, reach)?;
-    let order = by_rank(heap, ranks.as_slice())?;
-    Ok(order)
+    Ok(by_rank(heap, ranks.as_slice())?)
 }

@@ -12,11 +12,7 @@ fn first_row<G: Graph>(heap: Global, g: &G, a: usize) -> Result<Vec<bool>, Alloc
     requires { a < G.size g.now }
     ensures { IfOk result (λ v. v.items ≡ table (G.size g.now) (G.wants g.now a)) }
 {
-    let mut row = Vec::new(heap);
-    for b in 0..g.nodes() {
-        row.push(g.needs(a, b))?;
-    }
-    Ok(row)
+    (0..g.nodes()).map(|b| g.needs(a, b)).collect(heap)
 }
 
 /// Which node needs which: row a says of b whether a needs b.
@@ -24,6 +20,7 @@ fn first_rows<G: Graph>(heap: Global, g: &G) -> Result<Vec<Vec<bool>>, AllocErro
     ensures { IfOk result (λ v. bits v.items ≡ grid (G.size g.now) (G.wants g.now)) }
 {
     let mut rows = Vec::new(heap);
+    // A loop: of `try_collect`, where a row may lack memory, the proof did not close.
     for a in 0..g.nodes() {
         rows.push(first_row(heap, g, a)?)?;
     }
@@ -37,11 +34,10 @@ fn next_row(heap: Global, row: &[bool], via: &[bool], k: usize) -> Result<Vec<bo
     ensures { IfOk result (λ v. v.items ≡ table (length row.now) (λ j. slice_index_or row.now j false || (slice_index_or row.now k false && slice_index_or via.now j false))) }
 {
     let joins = row[k];
-    let mut next = Vec::new(heap);
-    for j in 0..row.len() {
-        next.push(row[j] | (joins & via[j]))?;
-    }
-    Ok(next)
+    row.iter()
+        .zip(via)
+        .map(|(own, more)| *own | (joins & *more))
+        .collect(heap)
 }
 
 /// All rows after round `k`.
@@ -50,9 +46,11 @@ fn next_rows(heap: Global, rows: &[Vec<bool>], k: usize) -> Result<Vec<Vec<bool>
     requires square { Square (bits rows.now) }
     ensures { IfOk result (λ v. bits v.items ≡ grid (length rows.now) (through (cell (bits rows.now)) k)) }
 {
+    let via = rows[k].as_slice();
     let mut next = Vec::new(heap);
-    for i in 0..rows.len() {
-        next.push(next_row(heap, rows[i].as_slice(), rows[k].as_slice(), k)?)?;
+    // A loop: of `try_collect`, where a row may lack memory, the proof did not close.
+    for row in rows {
+        next.push(next_row(heap, row.as_slice(), via, k)?)?;
     }
     Ok(next)
 }
@@ -68,16 +66,20 @@ pub(crate) fn reached<G: Graph>(heap: Global, g: &G) -> Result<Vec<Vec<bool>>, A
     Ok(rows)
 }
 
+/// Whether node `a` reaches itself.
+fn reaches_itself(rows: &[Vec<bool>], a: usize) -> bool
+    requires within { a < length rows.now }
+    requires square { Square (bits rows.now) }
+    ensures { result ≡ cell (bits rows.now) a a }
+{
+    rows[a][a]
+}
+
 /// The first node that reaches itself.
 pub(crate) fn first_on_circle(rows: &[Vec<bool>]) -> Option<usize>
     requires { Square (bits rows.now) }
     ensures found { IfSome result (λ a. (a < length rows.now) × (cell (bits rows.now) a a ≡ true)) }
     ensures before { (b : ℕ) → b < unwrap_or result (length rows.now) → cell (bits rows.now) b b ≡ false }
 {
-    for a in 0..rows.len() {
-        if rows[a][a] {
-            return Some(a);
-        }
-    }
-    None
+    (0..rows.len()).find(|a| reaches_itself(rows, *a))
 }

@@ -1,11 +1,11 @@
 //! Equations over the nodes of a graph, one for each node, and their solution.
-ghost use Rattle.std.specs.Prelude.{◌≡◌, ℕ, ◌<◌, length, replicate, IfOk, vec_len, slice_index_or};
+ghost use Rattle.std.specs.Prelude.{◌≡◌, ℕ, ◌<◌, length, slice_index_or};
 ghost use Rattle.graph.specs.Needs.{Orders};
 ghost use Rattle.graph.specs.Settled.{Settled};
 ghost use Rattle.graph.specs.Solve.{Local, OneSolution};
 
 use crate::{Graph, OrderFault, order};
-use std::alloc::{AllocError, Global};
+use std::alloc::Global;
 
 /// A graph with a rule for each node, which gives its value from the values of the nodes that it needs.
 pub trait System: Graph {
@@ -44,23 +44,12 @@ fn evaluate<S: System>(s: &S, order: &[usize], values: &mut [S::Value])
     }
 }
 
-/// `n` copies of `x`.
-fn filled<T: Copy>(heap: Global, x: T, n: usize) -> Result<Vec<T>, AllocError>
-    ensures { IfOk result (λ v. (v.items ≡ replicate n x) × (vec_len v ≡ n)) }
-{
-    let mut v = Vec::new(heap);
-    for _i in 0..n {
-        v.push(x)?;
-    }
-    Ok(v)
-}
-
 /// The one solution of the rules of all nodes, or the least node that lies on a circle.
 pub fn solve<S: System>(heap: Global, s: &S) -> Result<Vec<S::Value>, OrderFault>
     ensures { Settled (S.unset s.now) (S.Graph.size s.now) (S.Graph.wants s.now) (S.rule s.now) result }
 {
     let order = order(heap, s)?;
-    let mut values = filled(heap, s.blank(), s.nodes())?;
+    let mut values = vec![in heap; s.blank(); s.nodes()]?;
     evaluate(s, order.as_slice(), values.as_mut_slice());
     Ok(values)
 }

@@ -27,5 +27,5 @@ returns-in-Some g c =
 pub returns : goal.returns
 returns g c =
     let is = ap bits c.as_slice-reach.ensures.value ∙ c.in_ok-rows.ensures in
-    let found = order_found c.as_slice-reach.result.now (g.G.Graph.size c.args.g.now) (g.G.Graph.wants c.args.g.now) is c.in_default.ensures.before c.as_slice.result.now _ (c.as_slice.ensures.value ∙ c.in_ok-ranks.ensures) c.in_ok-order.ensures in
-    (found.0, found.1, c.in_ok-order.order.ok.0 ∙ order_length _ _ _ found.0)
+    let found = order_found c.as_slice-reach.result.now (g.G.Graph.size c.args.g.now) (g.G.Graph.wants c.args.g.now) is c.in_default.ensures.before c.as_slice.result.now _ (c.as_slice.ensures.value ∙ c.in_ok-ranks.ensures) c.in_ok-by_rank.ensures in
+    (found.0, found.1, c.in_ok-by_rank.field-0.ok.0 ∙ order_length _ _ _ found.0)

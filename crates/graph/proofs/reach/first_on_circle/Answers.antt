@@ -1,19 +1,19 @@
--- The place that is read in row a is the cell (a, a) of the grid, since the grid is square.
-use Rattle.std.proofs.Common.{◌≡◌, false, sym, ◌∙◌, arith, below_more}
+-- The search passes nodes that do not reach themselves, and ends at one that does.
+use Rattle.std.proofs.Common.{◌≡◌, ℕ, ◌<◌, ◌≤◌, true, false, length, Some, None, Option, IfSome, MatchOption, unwrap_or, arith, rules, tests}
+use Rattle.std.proofs.lemmas.Iterator.{first_from_Range}
 use Rattle.graph.specs.Grid.{bits, cell}
-use Rattle.graph.proofs.Grids.{row_long, cell_read}
 use Rattle.graph.proofs.reach.first_on_circle.Goals as goal
 
-pub index-requires : goal.index-requires
-index-requires c =
-    omega (arith, c.index-rows-a.result.ok.0, row_long c.args.rows.now c.loop-a.a c.index-rows-a.result c.loop-a-test.true c.index-rows-a.is c.requires)
+-- what the search tells in its two cases
+parts : (r : Option ℕ) (n : ℕ) (Yes No : ℕ → Type 0) → MatchOption r ((k : ℕ) → 0 ≤ k → k < n → No k) (λ i. (0 ≤ i) × (i < n) × Yes i × ((k : ℕ) → 0 ≤ k → k < i → No k)) → IfSome r (λ a. (a < n) × Yes a) × ((b : ℕ) → b < unwrap_or r n → No b)
+parts None n Yes No h = (tt, λ b l. h b (omega arith) l)
+parts (Some a) n Yes No h = ((h.1, h.2), λ b l. h.3 b (omega arith) l)
 
-pub returns-then-index : goal.returns-then-index
-returns-then-index c =
-    let read = cell_read c.args.rows.now c.loop-a.a c.index-rows-a.result c.loop-a-test.true c.index-rows-a.is c.requires c.loop-a.a c.index.result.now c.loop-a-test.true c.index.ensures in
-    record { found = (c.loop-a-test.true, sym read ∙ c.if-index.true); before = c.loop-a.invariant }
-
-pub loop-a-preserved : goal.loop-a-preserved
-loop-a-preserved c =
-    let read = cell_read c.args.rows.now c.loop-a.a c.index-rows-a.result c.loop-a-test.true c.index-rows-a.is c.requires c.loop-a.a c.index.result.now c.loop-a-test.true c.index.ensures in
-    below_more (λ b. cell (bits c.args.rows.now) b b ≡ false) _ c.loop-a.invariant (sym read ∙ c.if-index.false)
+pub returns : goal.returns
+returns c =
+    let rows = c.args.rows.now in
+    let h = parts c.find.result (length rows) (λ a. cell (bits rows) a a ≡ true) (λ a. cell (bits rows) a a ≡ false)
+    (first_from_Range _ _ _ c.find.result (λ a. cell (bits rows) a a ≡ true) (λ a. cell (bits rows) a a ≡ false) c.find.ensures.ran
+    (λ x q k. search (rules, tests))
+    (λ x q k. (search rules, search (rules, tests)))) in
+    record { found = h.0; before = h.1 }

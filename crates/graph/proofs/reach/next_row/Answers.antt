@@ -1,10 +1,16 @@
--- Each turn adds one place by that rule.
-use Rattle.std.proofs.Common.{false, ◌&&◌, ◌||◌, get_or, refl, ◌∙◌}
-use Rattle.graph.proofs.Grids.{table_push}
+-- The chain joins the two rows place by place.
+use Rattle.std.proofs.Common.{◌≡◌, Bool, false, ◌&&◌, ◌||◌, map, get_or, vec_items, IfOk, rules, ◌∙◌}
+use Rattle.std.specs.List.{zip}
+use Rattle.std.proofs.lemmas.Iterator.{items_from_collect, YieldsList-from_map, YieldsList-from_zip, YieldsList-from_slice}
+use Rattle.std.proofs.lemmas.Result.{IfOk-weaker}
+use Rattle.graph.proofs.Grids.{row_joined}
 use Rattle.graph.proofs.reach.next_row.Goals as goal
 
-pub loop-j-preserved : goal.loop-j-preserved
-loop-j-preserved c =
+pub returns : goal.returns
+returns c =
     let row = c.args.row.now in
-    let pushed = rw c.in_ok-push.was at c.push.ensures.items in
-    pushed ∙ table_push (λ j. get_or row j false || (get_or row c.args.k false && get_or c.args.via.now j false)) c.loop-j.j _ _ c.loop-j.invariant refl
+    let via = c.args.via.now in
+    let joins = get_or row c.args.k false in
+    let joined : IfOk c.collect.result (λ v. vec_items v ≡ map (λ (p : Bool × Bool). p.0 || (joins && p.1)) (zip row via)) =
+    items_from_collect _ c.collect.ensures.ran (YieldsList-from_map _ (λ (p : Bool × Bool). p.0 || (joins && p.1)) (YieldsList-from_zip (YieldsList-from_slice row (cc)) (YieldsList-from_slice via (cc))) c.map.ensures.closure (λ x r q k. search rules)) in
+    IfOk-weaker c.collect.result _ _ (λ v e. e ∙ row_joined row via joins c.requires.same) joined

@@ -7,15 +7,15 @@ use Rattle.graph.proofs.reach.next_rows.Goals as goal
 pub next_row-requires : goal.next_row-requires
 next_row-requires c =
     let rows = c.args.rows.now in
-    let long-i = ap length c.as_slice.ensures.value ∙ row_long rows c.loop-i.i c.index-rows-i.result c.loop-i-test.true c.index-rows-i.is c.requires.square in
-    let long-k = ap length c.as_slice-in-loop-i.ensures.value ∙ row_long rows c.args.k c.index-rows-k.result c.requires.within c.index-rows-k.is c.requires.square in
-    record { within = omega (arith, long-i, c.requires.within); same = long-k ∙ sym long-i }
+    let long-row = ap length c.as_slice.ensures.value ∙ row_long rows c.loop-row.row-index c.row-item.result c.loop-row-test.true c.row-item.is c.requires.square in
+    let long-k = ap length c.as_slice-via.ensures.value ∙ row_long rows c.args.k c.index-rows-k.result c.requires.within c.index-rows-k.is c.requires.square in
+    record { within = omega (arith, long-row, c.requires.within); same = long-k ∙ sym long-row }
 
-pub loop-i-preserved : goal.loop-i-preserved
-loop-i-preserved c =
+pub loop-row-preserved : goal.loop-row-preserved
+loop-row-preserved c =
     let rows = c.args.rows.now in
-    let row-i = c.as_slice.ensures.value ∙ row_read rows c.loop-i.i c.index-rows-i.result c.loop-i-test.true c.index-rows-i.is in
-    let row-k = c.as_slice-in-loop-i.ensures.value ∙ row_read rows c.args.k c.index-rows-k.result c.requires.within c.index-rows-k.is in
-    let long-i = ap length c.as_slice.ensures.value ∙ row_long rows c.loop-i.i c.index-rows-i.result c.loop-i-test.true c.index-rows-i.is c.requires.square in
-    let next = next_is rows c.loop-i.i c.args.k _ _ _ row-i row-k long-i c.in_ok-next_row.ensures in
-    ap bits c.in_ok-push.ensures.items ∙ bits_push (λ i. table (length rows) (through (cell (bits rows)) c.args.k i)) c.loop-i.i _ _ c.loop-i.invariant next
+    let row = c.as_slice.ensures.value ∙ row_read rows c.loop-row.row-index c.row-item.result c.loop-row-test.true c.row-item.is in
+    let via = c.as_slice-via.ensures.value ∙ row_read rows c.args.k c.index-rows-k.result c.requires.within c.index-rows-k.is in
+    let long = ap length c.as_slice.ensures.value ∙ row_long rows c.loop-row.row-index c.row-item.result c.loop-row-test.true c.row-item.is c.requires.square in
+    let next = next_is rows c.loop-row.row-index c.args.k _ _ _ row via long c.in_ok-next_row.ensures in
+    ap bits c.in_ok-push.ensures.items ∙ bits_push (λ i. table (length rows) (through (cell (bits rows)) c.args.k i)) c.loop-row.row-index _ _ c.loop-row.invariant next

@@ -1,12 +1,7 @@
 -- Each turn writes the value of the next node of the order, and after the last the stage is the one solution.
 use Rattle.std.proofs.Common.{◌≡◌, ℕ, length, get_or, refl, subst, arith, rules}
-use Rattle.graph.proofs.Solutions.{Holds, holds_start, holds_more, holds_one}
+use Rattle.graph.proofs.Solutions.{Holds, holds_more, holds_one}
 use Rattle.graph.proofs.systems.evaluate.Goals as goal
-
-pub loop-a-init : goal.loop-a-init
-loop-a-init g c =
-    let s = c.args.s.now in
-    holds_start (g.S.System.unset s) (g.S.Graph.size s) (g.S.Graph.wants s) (g.S.System.rule s) c.args.order.now (g.met.S.System.local s) (λ b. get_or c.args.values.now b (g.S.System.unset s)) _ c.requires.all (λ b l. refl)
 
 pub loop-a-preserved : goal.loop-a-preserved
 loop-a-preserved g c =
