@@ -1,5 +1,5 @@
 -- Graphs of at most 64 nodes by their arcs.
-use Rattle.std.specs.Prelude.{◌≡◌, Bool, false, ◌||◌, ◌&&◌, ℕ, ◌+◌, ◌*◌, ◌<◌, eqb, get_or}
+use Rattle.std.specs.Prelude.{◌≡◌, Bool, false, ◌||◌, ◌&&◌, ℕ, ◌<◌, eqb, [], slice_index_or}
 use Rattle.links.specs.declared.arcs.Links.{Links}
 
 -- how many nodes there are
@@ -8,7 +8,7 @@ nodes g = g.count
 
 -- does a need b?
 abbrev pub linked : Links → ℕ → ℕ → Bool
-linked g a b = get_or g.arcs (64 * a + b) false
+linked g a b = slice_index_or (slice_index_or g.arcs a []) b false
 
 -- of the nodes, a needs b now, and every other need is as it was
 abbrev pub Added : Links → ℕ → ℕ → Links → Type 0

@@ -1,11 +1,14 @@
 //! The storage of the arcs.
-ghost use Rattle.std.specs.Prelude.{◌≡◌, ◌≤◌, length};
+ghost use Rattle.std.specs.Prelude.{◌≡◌, ℕ, ◌<◌, ◌≤◌, [], length, slice_index_or};
 
-/// Which of `count` nodes needs which. Whether a needs b stands at 64 a + b.
+/// How many nodes there are at most.
+pub(crate) const MOST_NODES: usize = 64;
+
+/// Which of `count` nodes needs which: row a says at b whether a needs b.
 #[derive(Clone, Copy)]
 pub struct Links {
     pub(crate) count: usize,
-    pub(crate) arcs: [bool; 4096],
+    pub(crate) arcs: [[bool; MOST_NODES]; MOST_NODES],
     ghost few: { count ≤ 64 },
-    ghost long: { length arcs ≡ 4096 },
+    ghost wide: { (a : ℕ) → a < 64 → length (slice_index_or arcs a []) ≡ 64 },
 }

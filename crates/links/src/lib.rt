@@ -6,11 +6,8 @@ ghost use Rattle.links.specs.Linked.{nodes, linked, Added};
 
 pub mod arcs;
 
-use arcs::Links;
+use arcs::{Links, MOST_NODES};
 use graph::Graph;
-
-/// How many nodes there are at most.
-const MOST_NODES: usize = 64;
 
 impl Links {
     /// So many nodes, 64 at most, of which none needs another.
@@ -20,7 +17,7 @@ impl Links {
     {
         Links {
             count: count.min(MOST_NODES),
-            arcs: [false; 4096],
+            arcs: [[false; MOST_NODES]; MOST_NODES],
         }
     }
 
@@ -30,7 +27,7 @@ impl Links {
         ensures arcs { Added self.old a b self.new }
     {
         if a < self.count && b < self.count {
-            self.arcs[MOST_NODES * a + b] = true;
+            self.arcs[a][b] = true;
         }
     }
 }
@@ -45,6 +42,6 @@ impl Graph for Links {
     }
 
     fn needs(&self, a: usize, b: usize) -> bool {
-        self.arcs[MOST_NODES * a + b]
+        self.arcs[a][b]
     }
 }
