@@ -1,7 +1,8 @@
 -- Why a search from the front finds the first place, and what its place tells.
 use Rattle.std.proofs.Common.{◌≡◌, ℕ, suc, ◌+◌, ◌<◌, ◌≤◌, Bool, true, false, cond, ◌||◌, List, [], ◌∷◌, map, length, get_or, drop, is_some, Some, None, Option, unwrap_or, sym, refl, ap, ◌∙◌, subst, arith}
+use Rattle.std.specs.List.{position, position_from}
 use Rattle.std.specs.Option.{option_map}
-use Rattle.std.proofs.lemmas.List.{drop_more, drop_all}
+use Rattle.std.proofs.lemmas.Iterator.Adapters.{position_from-zero}
 use Rattle.scan.specs.Names.{Bytes, same, among}
 use Rattle.scan.proofs.NameOrder.{told}
 use Rattle.verdict.specs.Circuit.{rank_in}
@@ -53,21 +54,15 @@ found_at (m ∷ ms) n i e = by (same m n) refl (position_in ms n) (found_at ms n
       let p = h j refl in
       subst (λ k. (k < suc (length ms)) × (get_or (m ∷ ms) k [] ≡ n)) z (omega (arith, p.0), p.1)
 
-module _ {X : Type 0} (label : X → Bytes) (xs : List X) (n : Bytes) where
-  -- before the first turn
-  pub position_none : position_in (map label xs) n ≡ from 0 (position_in (map label (drop 0 xs)) n)
-  position_none = from_none _
+module _ {X : Type 0} (label : X → Bytes) (n : Bytes) where
+  named_from : (k : ℕ) (xs : List X) → position_from (λ x. same (label x) n) k xs ≡ from k (position_in (map label xs) n)
+  named_from k [] = refl
+  named_from k (x ∷ xs) = by (same (label x) n) (named_from (k + 1) xs) where
+    by : (b : Bool) → position_from (λ x. same (label x) n) (k + 1) xs ≡ from (k + 1) (position_in (map label xs) n) →
+        cond b (Some k) (position_from (λ x. same (label x) n) (k + 1) xs) ≡ from k (cond b (Some 0) (option_map suc (position_in (map label xs) n)))
+    by true h = ap Some (omega arith)
+    by false h = h ∙ sym (from_suc k (position_in (map label xs) n))
 
-  one : (i : ℕ) (x : X) → i < length xs → x ≡ get_or xs i x → position_in (map label (drop i xs)) n ≡ cond (same (label x) n) (Some 0) (option_map suc (position_in (map label (drop (i + 1) xs)) n))
-  one i x h e = ap (λ ys. position_in (map label ys) n) (drop_more xs i x h) ∙ ap (λ y. cond (same (label y) n) (Some 0) (option_map suc (position_in (map label (drop (i + 1) xs)) n))) (sym e)
-
-  -- the same bytes end the search
-  pub position_here : (i : ℕ) (x : X) → i < length xs → x ≡ get_or xs i x → same (label x) n ≡ true → from i (position_in (map label (drop i xs)) n) ≡ Some i
-  position_here i x h e s = ap (from i) (one i x h e ∙ ap (λ b. cond b (Some 0) (option_map suc (position_in (map label (drop (i + 1) xs)) n))) s) ∙ ap Some (omega arith)
-
-  -- others do not
-  pub position_more : (i : ℕ) (x : X) → i < length xs → x ≡ get_or xs i x → same (label x) n ≡ false → from i (position_in (map label (drop i xs)) n) ≡ from (i + 1) (position_in (map label (drop (i + 1) xs)) n)
-  position_more i x h e s = ap (from i) (one i x h e ∙ ap (λ b. cond b (Some 0) (option_map suc (position_in (map label (drop (i + 1) xs)) n))) s) ∙ from_suc i _
-
-  pub position_all : (i : ℕ) → length xs ≤ i → from i (position_in (map label (drop i xs)) n) ≡ None
-  position_all i h = ap (λ ys. from i (position_in (map label ys) n)) (drop_all i xs h)
+  -- the first that is named so, in the words of the library
+  pub position_named : (xs : List X) → position (λ x. same (label x) n) xs ≡ position_in (map label xs) n
+  position_named xs = position_from-zero (λ x. same (label x) n) xs ∙ named_from 0 xs ∙ sym (from_none _)
