@@ -1,7 +1,7 @@
 -- Why a search for the first that lacks its name among others tells the judgement on all of them.
-use Rattle.std.proofs.Common.{◌≡◌, ℕ, Bool, true, false, cond, not, List, [], ◌∷◌, map, is_some, is_none, Some, None, Option, refl, ap, ◌∙◌}
+use Rattle.std.proofs.Common.{◌≡◌, ℕ, Bool, true, false, cond, not, List, [], ◌∷◌, map, is_some, is_none, Some, None, Option, refl, ap}
 use Rattle.std.specs.List.{find}
-use Rattle.scan.specs.Names.{Bytes, same, among}
+use Rattle.scan.specs.Names.{Bytes, among}
 use Rattle.verdict.specs.Verdict.{read, refuse, check_among}
 use Rattle.names.specs.Positions.{position_in}
 use Rattle.names.proofs.Finding.{found_among}
