@@ -8,7 +8,7 @@ ghost use Rattle.refusal.specs.declared.kinds.Failure.TheVariants.{Refused, NoMe
 pub mod kinds;
 
 use kinds::{Failure, Fault, Refusal};
-use std::alloc::{AllocError, AllocFailed as Unplaced};
+use std::alloc::{AllocError, AllocFailed};
 
 impl Refusal {
     /// The number by which a user knows the refusal.
@@ -73,10 +73,10 @@ impl From<AllocError> for Failure {
     }
 }
 
-impl<T: Drop> From<Unplaced<T>> for Failure {
+impl<T: Drop> From<AllocFailed<T>> for Failure {
     ghost from_gives = { λ _ r. r ≡ NoMemory };
 
-    fn from(_: Unplaced<T>) -> Failure {
+    fn from(_: AllocFailed<T>) -> Failure {
         Failure::NoMemory
     }
 }
