@@ -1,4 +1,4 @@
--- What one byte, and the end of the text, do to the words that are still to come.
+-- What one byte does to the words that are still to come, and what words come from a place past the text's end.
 use Rattle.std.proofs.Common.{◌≡◌, ℕ, ◌+◌, ◌<◌, ◌≤◌, min, [], ◌∷◌, length, get_or, drop, sym, refl, ap, ◌∙◌, ⊎_elim, arith}
 use Rattle.std.proofs.lemmas.List.{drop_more, drop_all}
 use Rattle.std.proofs.lemmas.Bool.{cases_lt}
@@ -15,16 +15,11 @@ one t comment p b bs = refl
 pub turn : (t : Bytes) (w : Where) (k : Class) (p : ℕ) → p < length t → k ≡ class_of (get_or t p 0) → words_from t w p (drop p t) ≡ ended t w k p (words_from t (after w k p) (p + 1) (drop (p + 1) t))
 turn t w k p h e = rw (e, drop_more t p 0) (one t w p (get_or t p 0) (drop (p + 1) t))
 
-at_end : (t : Bytes) (w : Where) (p : ℕ) → length t ≤ p → words_from t w p (drop p t) ≡ words_from t w p []
-at_end t w p h = ap (words_from t w p) (drop_all p t h)
-
--- past the end no word is left between words
-pub spent : (t : Bytes) (v : Where) (p : ℕ) → length t ≤ p → v ≡ between → words_from t v p (drop p t) ≡ []
-spent t v p h m = rw m (at_end t between p h)
-
 -- a start past the text's end counts as the end
 pub starts : (t : Bytes) (from : ℕ) → words_after t (min from (length t)) ≡ words_after t from
 starts t from = ⊎_elim
     (λ l. ap (words_after t) (omega arith))
-    (λ l. spent t between (min from (length t)) (omega arith) refl ∙ sym (spent t between from l refl))
-    (cases_lt from (length t))
+    (λ l. none (min from (length t)) (omega arith) ∙ sym (none from l))
+    (cases_lt from (length t)) where
+      none : (p : ℕ) → length t ≤ p → words_after t p ≡ []
+      none p h = ap (words_from t between p) (drop_all p t h)
