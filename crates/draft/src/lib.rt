@@ -5,7 +5,7 @@ ghost use Rattle.std.specs.Prelude.{◌≡◌};
 ghost use Rattle.scan.specs.NameBytes.{name_bytes};
 ghost use Rattle.draft.specs.Drafts.{Blank};
 
-use names::Named;
+use names::{Named, Placed};
 use std::alloc::Global;
 
 pub mod drafts;
@@ -27,6 +27,22 @@ impl Named for Entry {
 
     fn name(&self) -> &[u8] {
         self.name.as_bytes()
+    }
+}
+
+impl Placed for Drafted {
+    ghost stands_at = { λ p. p.place };
+
+    fn place(&self) -> usize {
+        self.place
+    }
+}
+
+impl Placed for Entry {
+    ghost stands_at = { λ e. e.place };
+
+    fn place(&self) -> usize {
+        self.place
     }
 }
 

@@ -8,7 +8,7 @@ use refusal::kinds::{Failure, Refusal};
 use scan::reader::TextWord;
 use scan::reader::reads::drawing_words;
 use sections::rows::{Next, next_at, part_end, sections_of};
-use std::alloc::{AllocError, Global};
+use std::alloc::Global;
 
 /// How many bytes a text may have.
 const LONGEST_TEXT: usize = 131_072;
@@ -20,16 +20,6 @@ pub struct Drawing {
     pub end: usize,
 }
 
-/// The words of a drawing's text.
-fn words_of<'t>(heap: Global, text: &'t [u8]) -> Result<Vec<TextWord<'t>>, AllocError> {
-    let mut words = Vec::new(heap);
-    let mut reader = drawing_words(text);
-    while let Some(word) = reader.next() {
-        words.push(word)?;
-    }
-    Ok(words)
-}
-
 /// Reads the parts one after the other.
 fn read_parts(
     reader: &mut PartReader<'_>,
@@ -37,18 +27,12 @@ fn read_parts(
     words: &[TextWord<'_>],
     end: Next,
 ) -> Result<(), Failure> {
-    let mut from = 0;
-    while from < words.len() {
-        let upto = part_end(words, from);
-        let next = next_at(words, upto, end);
-        reader.read(
-            draft,
-            PartWords {
-                words: &words[from..upto],
-                next,
-            },
-        )?;
-        from = upto;
+    let mut later = words;
+    while !later.is_empty() {
+        let (words, rest) = later.split_at(part_end(later, 0));
+        let next = next_at(rest, 0, end);
+        reader.read(draft, PartWords { words, next })?;
+        later = rest;
     }
     Ok(())
 }
@@ -56,9 +40,9 @@ fn read_parts(
 /// Reads a drawing's text.
 pub fn read(heap: Global, text: &[u8]) -> Result<Drawing, Failure> {
     if text.len() > LONGEST_TEXT {
-        return Err(Failure::Refused(Refusal::TextTooLong.at(0)));
+        return Err(Refusal::TextTooLong.at(0).into());
     }
-    let words = words_of(heap, text)?;
+    let words: Vec<TextWord<'_>> = drawing_words(text).collect(heap)?;
     let sections = sections_of(words.as_slice(), text.len());
     let macros = read_macros(heap, sections.macros)?;
     let listed = read_list(heap, sections.listed)?;

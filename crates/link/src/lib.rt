@@ -1,95 +1,135 @@
 //! The checks after the closing stop, and the circuit: parts by rank, telling each other by rank.
 #![tactic(auto)]
 
-use circuit::parts::{Body, Item, Listed, Span};
-use circuit::wiring::{Circuit, marked};
-use draft::drafts::{Draft, Drafted, Reference};
+use circuit::parts::{Body, Expression, Item, Listed, Part};
+use circuit::wiring::Circuit;
+use draft::drafts::{Draft, Drafted, Field};
 use draft::entry::Entry;
-use graph::OrderFault;
 use links::arcs::Links;
-use names::{find, sorted};
+use names::{check_named, find, ordered, sorted};
 use refusal::kinds::{Failure, Fault, Refusal};
 use scan::names::Name;
 use std::alloc::{AllocError, Global};
 
-/// Refuses the first listed name that no part has.
-pub fn check_listed(listed: &[Entry], parts: &[Drafted]) -> Result<(), Fault> {
-    for at in 0..listed.len() {
-        let entry = listed[at];
-        if find(parts, entry.name.as_bytes()).is_none() {
-            return Err(Refusal::ListedWithoutPart.at(entry.place));
+/// Refuses the first name in a field that no part has.
+fn check_field(field: &Field, parts: &[&Drafted]) -> Result<(), Fault> {
+    for item in field.items.as_slice() {
+        if let Item::Bits(name, _) = item {
+            if find(parts, name.as_bytes()).is_none() {
+                return Err(Refusal::NoSuchPart.at(field.place));
+            }
         }
     }
     Ok(())
 }
 
-/// Refuses the first part whose name is not listed.
-pub fn check_parts(parts: &[Drafted], listed: &[Entry]) -> Result<(), Fault> {
-    for rank in 0..parts.len() {
-        let part = parts[rank];
-        if find(listed, part.name.as_bytes()).is_none() {
-            return Err(Refusal::PartNotListed.at(part.place));
+/// Refuses the first name in the fields of a part that no part has.
+fn check_body(body: &Body<Field>, parts: &[&Drafted]) -> Result<(), Fault> {
+    match body {
+        Body::Memory {
+            address,
+            data,
+            operation,
+            ..
+        } => {
+            check_field(address, parts)?;
+            check_field(data, parts)?;
+            check_field(operation, parts)
+        }
+        Body::Alu {
+            function,
+            left,
+            right,
+        } => {
+            check_field(function, parts)?;
+            check_field(left, parts)?;
+            check_field(right, parts)
+        }
+        Body::Selector { select, cases } => {
+            check_field(select, parts)?;
+            for case in cases.as_slice() {
+                check_field(case, parts)?;
+            }
+            Ok(())
         }
     }
-    Ok(())
 }
 
-/// Refuses the first name in an expression that no part has.
-pub fn check_references(references: &[Reference], parts: &[Drafted]) -> Result<(), Fault> {
-    for at in 0..references.len() {
-        let reference = references[at];
-        if find(parts, reference.name.as_bytes()).is_none() {
-            return Err(Refusal::NoSuchPart.at(reference.place));
-        }
+/// Refuses the first name in an expression that no part has. The drafted parts are in text order.
+pub fn check_references(drafted: &[Drafted], parts: &[&Drafted]) -> Result<(), Fault> {
+    for part in drafted {
+        check_body(&part.body, parts)?;
     }
     Ok(())
 }
 
 /// The rank of a name among parts that stand by name, or their number if none has it.
-fn rank_of(parts: &[Drafted], name: &Name) -> usize {
-    match find(parts, name.as_bytes()) {
-        Some(rank) => rank,
-        None => parts.len(),
-    }
+fn rank_of(parts: &[&Drafted], name: &Name) -> usize {
+    find(parts, name.as_bytes()).unwrap_or(parts.len())
 }
 
 /// An item that tells its part by rank.
-fn ranked(item: Item<Name>, parts: &[Drafted]) -> Item<usize> {
+fn ranked_item(item: &Item<Name>, parts: &[&Drafted]) -> Item<usize> {
     match item {
-        Item::Constant(value, width) => Item::Constant(value, width),
-        Item::Bits(name, range) => Item::Bits(rank_of(parts, &name), range),
+        Item::Constant(value, width) => Item::Constant(*value, *width),
+        Item::Bits(name, range) => Item::Bits(rank_of(parts, name), *range),
     }
 }
 
-/// All items with parts told by rank.
-pub fn ranked_items(
+/// An expression that tells parts by rank.
+fn ranked(heap: Global, field: &Field, parts: &[&Drafted]) -> Result<Expression, AllocError> {
+    field
+        .items
+        .iter()
+        .map(|item| ranked_item(item, parts))
+        .collect(heap)
+}
+
+/// What a part is, with parts told by rank.
+fn ranked_body(
     heap: Global,
-    items: &[Item<Name>],
-    parts: &[Drafted],
-) -> Result<Vec<Item<usize>>, AllocError> {
-    let mut all = Vec::new(heap);
-    for at in 0..items.len() {
-        all.push(ranked(items[at], parts))?;
+    body: &Body<Field>,
+    parts: &[&Drafted],
+) -> Result<Body<Expression>, AllocError> {
+    match body {
+        Body::Memory {
+            address,
+            data,
+            operation,
+            first,
+        } => Ok(Body::Memory {
+            address: ranked(heap, address, parts)?,
+            data: ranked(heap, data, parts)?,
+            operation: ranked(heap, operation, parts)?,
+            first: Vec::from_slice(heap, first.as_slice())?,
+        }),
+        Body::Alu {
+            function,
+            left,
+            right,
+        } => Ok(Body::Alu {
+            function: ranked(heap, function, parts)?,
+            left: ranked(heap, left, parts)?,
+            right: ranked(heap, right, parts)?,
+        }),
+        Body::Selector { select, cases } => Ok(Body::Selector {
+            select: ranked(heap, select, parts)?,
+            cases: cases
+                .iter()
+                .map(|case| ranked(heap, case, parts))
+                .try_collect(heap)?,
+        }),
     }
-    Ok(all)
 }
 
-/// The names of the parts.
-pub fn names_of(heap: Global, parts: &[Drafted]) -> Result<Vec<Name>, AllocError> {
+/// The parts of a circuit, of parts that stand by name.
+pub fn ranked_parts(heap: Global, parts: &[&Drafted]) -> Result<Vec<Part>, AllocError> {
     let mut all = Vec::new(heap);
-    for rank in 0..parts.len() {
-        let part = parts[rank];
-        all.push(part.name)?;
-    }
-    Ok(all)
-}
-
-/// What the parts are.
-pub fn bodies_of(heap: Global, parts: &[Drafted]) -> Result<Vec<Body>, AllocError> {
-    let mut all = Vec::new(heap);
-    for rank in 0..parts.len() {
-        let part = parts[rank];
-        all.push(part.body)?;
+    for part in parts {
+        all.push(Part {
+            name: part.name,
+            body: ranked_body(heap, &part.body, parts)?,
+        })?;
     }
     Ok(all)
 }
@@ -98,105 +138,85 @@ pub fn bodies_of(heap: Global, parts: &[Drafted]) -> Result<Vec<Body>, AllocErro
 pub fn ranked_list(
     heap: Global,
     listed: &[Entry],
-    parts: &[Drafted],
+    parts: &[&Drafted],
 ) -> Result<Vec<Listed>, AllocError> {
-    let mut all = Vec::new(heap);
-    for at in 0..listed.len() {
-        let entry = listed[at];
-        all.push(Listed {
+    listed
+        .iter()
+        .map(|entry| Listed {
             rank: rank_of(parts, &entry.name),
             traced: entry.traced,
-        })?;
-    }
-    Ok(all)
+        })
+        .collect(heap)
 }
 
 /// Lets the part `from` need the parts that an expression reads.
-fn link_expression(links: &mut Links, items: &[Item<usize>], from: usize) {
-    for item in items {
-        if let Item::Bits(rank, _) = *item {
-            links.add(from, rank);
+fn link_expression(links: &mut Links, from: usize, expression: &Expression) {
+    for item in expression.as_slice() {
+        if let Item::Bits(rank, _) = item {
+            links.add(from, *rank);
         }
     }
 }
 
 /// Lets the part `from` need the parts that it reads. A memory shows the word that it holds, so it needs none.
-fn link_part(links: &mut Links, items: &[Item<usize>], cases: &[Span], from: usize, body: Body) {
-    match body {
-        Body::Memory(_, _, _, _) => {}
-        Body::Alu(function, left, right) => {
-            link_expression(links, marked(items, function), from);
-            link_expression(links, marked(items, left), from);
-            link_expression(links, marked(items, right), from);
+fn link_part(links: &mut Links, from: usize, part: &Part) {
+    match &part.body {
+        Body::Memory { .. } => {}
+        Body::Alu {
+            function,
+            left,
+            right,
+        } => {
+            link_expression(links, from, function);
+            link_expression(links, from, left);
+            link_expression(links, from, right);
         }
-        Body::Selector(select, choices) => {
-            link_expression(links, marked(items, select), from);
-            for case in marked(cases, choices) {
-                link_expression(links, marked(items, *case), from);
+        Body::Selector { select, cases } => {
+            link_expression(links, from, select);
+            for case in cases.as_slice() {
+                link_expression(links, from, case);
             }
         }
     }
 }
 
 /// Which part reads which.
-fn links_of(parts: &[Drafted], items: &[Item<usize>], cases: &[Span]) -> Links {
+fn links_of(parts: &[Part]) -> Links {
     let mut links = Links::new(parts.len());
-    for from in 0..parts.len() {
-        link_part(&mut links, items, cases, from, parts[from].body);
+    for (from, part) in parts.iter().enumerate() {
+        link_part(&mut links, from, part);
     }
     links
 }
 
-/// An order of the ranks in which each ALU and selector comes after all that it reads; or the least name on a circle is
-/// refused.
-pub fn evaluation_order(
-    heap: Global,
-    parts: &[Drafted],
-    items: &[Item<usize>],
-    cases: &[Span],
-) -> Result<Vec<usize>, Failure> {
-    match graph::order(heap, &links_of(parts, items, cases)) {
-        Ok(order) => Ok(order),
-        Err(OrderFault::Circle(least)) => Err(Failure::Refused(Refusal::PartCircle.at(place_of(
-            parts, least,
-        )))),
-        Err(OrderFault::Memory) => Err(Failure::NoMemory),
-    }
-}
-
-/// The place of the name of the part of a rank.
-fn place_of(parts: &[Drafted], rank: usize) -> usize {
-    if rank < parts.len() {
-        let part = parts[rank];
-        return part.place;
-    }
-    0
-}
-
-/// The circuit of parts and list once all was read, if it meets none of the checks after the closing stop.
+/// The circuit of parts and list once all was read, if it meets none of the checks after the closing stop: each listed name
+/// has a part, each part is listed, and expressions name parts; and the ALUs and selectors read each other in no circle.
 pub fn link(heap: Global, draft: Draft, listed: &[Entry]) -> Result<Circuit, Failure> {
-    let parts = sorted(heap, draft.parts.as_slice())?;
-    let by_name = sorted(heap, listed)?;
-    check_listed(by_name.as_slice(), parts.as_slice())?;
-    check_parts(parts.as_slice(), by_name.as_slice())?;
-    check_references(draft.references.as_slice(), parts.as_slice())?;
-    let items = ranked_items(heap, draft.items.as_slice(), parts.as_slice())?;
-    let order = evaluation_order(
-        heap,
-        parts.as_slice(),
-        items.as_slice(),
-        draft.cases.as_slice(),
+    let drafted: Vec<&Drafted> = draft.parts.iter().collect(heap)?;
+    let by_name = sorted(heap, drafted.as_slice())?;
+    let listed_by_name = sorted(heap, listed)?;
+    check_named(
+        listed_by_name.as_slice(),
+        by_name.as_slice(),
+        Refusal::ListedWithoutPart,
     )?;
-    let listed = ranked_list(heap, listed, parts.as_slice())?;
-    let names = names_of(heap, parts.as_slice())?;
-    let bodies = bodies_of(heap, parts.as_slice())?;
+    check_named(
+        by_name.as_slice(),
+        listed_by_name.as_slice(),
+        Refusal::PartNotListed,
+    )?;
+    check_references(draft.parts.as_slice(), by_name.as_slice())?;
+    let parts = ranked_parts(heap, by_name.as_slice())?;
+    let order = ordered(
+        heap,
+        &links_of(parts.as_slice()),
+        by_name.as_slice(),
+        Refusal::PartCircle,
+    )?;
+    let listed = ranked_list(heap, listed, by_name.as_slice())?;
     Ok(Circuit {
         listed,
-        names,
-        bodies,
-        items,
-        cases: draft.cases,
-        first: draft.first,
+        parts,
         order,
     })
 }
