@@ -1,4 +1,7 @@
 //! The verdict on a drawing's text.
+ghost use Rattle.std.specs.Prelude.{length};
+ghost use Rattle.std.specs.Iterator.{at_most};
+
 use circuit::wiring::Circuit;
 use draft::drafts::Draft;
 use entries::{read_list, read_macros};
@@ -20,19 +23,42 @@ pub struct Drawing {
     pub end: usize,
 }
 
+/// Hands out the parts of a row of words, the words of each with what follows them.
+#[derive(Drop)]
+struct PartRows<'w, 't> {
+    /// The words that are not handed out yet.
+    rest: &'w [TextWord<'t>],
+    /// What follows the row.
+    end: Next,
+}
+
+impl<'w, 't> Iterator for PartRows<'w, 't> {
+    type Item = PartWords<'w, 't>;
+
+    ghost remaining = { λ rows. at_most (length rows.rest.now) };
+
+    fn next(&mut self) -> Option<PartWords<'w, 't>> {
+        let rest = self.rest;
+        if rest.is_empty() {
+            return None;
+        }
+        let end = part_end(rest, 0);
+        self.rest = &rest[end..];
+        Some(PartWords {
+            words: &rest[..end],
+            next: next_at(rest, end, self.end),
+        })
+    }
+}
+
 /// Reads the parts one after the other.
 fn read_parts(
     reader: &mut PartReader<'_>,
     draft: &mut Draft,
-    words: &[TextWord<'_>],
-    end: Next,
+    rows: PartRows<'_, '_>,
 ) -> Result<(), Failure> {
-    let mut later = words;
-    while !later.is_empty() {
-        let (words, rest) = later.split_at(part_end(later, 0));
-        let next = next_at(rest, 0, end);
-        reader.read(draft, PartWords { words, next })?;
-        later = rest;
+    for words in rows {
+        reader.read(draft, words)?;
     }
     Ok(())
 }
@@ -49,12 +75,11 @@ pub fn read(heap: Global, text: &[u8]) -> Result<Drawing, Failure> {
     sections.after_list.stop()?;
     let mut reader = PartReader::new(heap, macros);
     let mut draft = Draft::new(heap);
-    read_parts(
-        &mut reader,
-        &mut draft,
-        sections.parts,
-        sections.after_parts,
-    )?;
+    let rows = PartRows {
+        rest: sections.parts,
+        end: sections.after_parts,
+    };
+    read_parts(&mut reader, &mut draft, rows)?;
     let stop = sections.after_parts.stop()?;
     let circuit = link(heap, draft, listed.as_slice())?;
     Ok(Drawing {
