@@ -4,3 +4,4 @@ pub mod WordSteps
 pub mod Titles
 pub mod Classes
 pub mod WordsFound
+pub mod Handing
