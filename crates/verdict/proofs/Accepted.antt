@@ -1,5 +1,6 @@
 -- A text that differs from an accepted one only in the order of its parts is accepted as the same circuit.
 use Rattle.std.proofs.Common.{◌≡◌, ℕ, suc, ◌+◌, Bool, false, not, leb, List, [], ◌∷◌, ◌++◌, map, length, get_or, sym, refl, ap, ◌∙◌, subst, ap₂, arith}
+use mathlib.Core.List.{map-map}
 use lib.ListN.{length-map}
 use Rattle.std.proofs.lemmas.Bool.{cond-false, le-leb}
 use Rattle.scan.specs.Names.{Bytes, among}
@@ -19,7 +20,7 @@ use Rattle.verdict.proofs.Claims.{room_reordered}
 use Rattle.verdict.proofs.Ranks.{second, read_parts_names, sort_names, names_sorted}
 use Rattle.verdict.proofs.Circular.{first_read, flags_length, parts_length, places_length}
 use Rattle.verdict.proofs.Uses.{table_length}
-use Rattle.verdict.proofs.Theorem.{map_map, table_of, table_of_texts, length_reordered, short_read}
+use Rattle.verdict.proofs.Theorem.{table_of, table_of_texts, length_reordered, short_read}
 use Rattle.verdict.proofs.Alike.{read_bind, each_reordered, NewAll, macros_new, new_macros, ListNew, list_new, new_list, PartReads, claims_reordered, parts_room, room_parts, PartKnown, expressions_known, known_expressions}
 
 pub first_clear : (m : ℕ) (fs : List Bool) (ps : List ℕ) → ((i : ℕ) → get_or fs i false ≡ false) → refuse_first m fs ps ≡ read tt
@@ -41,7 +42,7 @@ among_other : (n : ℕ) (others : List Bytes) (es es' : List (Bytes × ℕ)) →
 among_other n others es es' h e =
     let f : Bytes → Bool = λ x. not (among others x) in
     let flags : map (λ (x : Bytes × ℕ). f x.0) es ≡ map (λ (x : Bytes × ℕ). f x.0) es' =
-    sym (map_map f (λ (x : Bytes × ℕ). x.0) es) ∙ (ap (map f) h ∙ map_map f (λ (x : Bytes × ℕ). x.0) es') in
+    sym (map-map f (λ (x : Bytes × ℕ). x.0) es) ∙ (ap (map f) h ∙ map-map f (λ (x : Bytes × ℕ). x.0) es') in
     let down : (i : ℕ) → get_or (map (λ (x : Bytes × ℕ). f x.0) es) i false ≡ false =
     first_read n (map (λ (x : Bytes × ℕ). f x.0) es) (places es) tt (length-map es (λ (x : Bytes × ℕ). f x.0) ∙ sym (length-map es (λ (x : Bytes × ℕ). x.1))) e in
     first_clear n (map (λ (x : Bytes × ℕ). f x.0) es') (places es') (λ i. ap (λ fs. get_or fs i false) (sym flags) ∙ down i)
@@ -49,12 +50,12 @@ among_other n others es es' h e =
 pub list_names : (ws : List Word) → names_of (list_places ws) ≡ sort_names (map (λ x. (entry x).0) (texts ws))
 list_names ws =
     let place : Word → Bytes × ℕ = λ w. ((entry w.text).0, w.at) in
-    names_sorted (map place ws) ∙ ap sort_names (map_map (λ (x : Bytes × ℕ). x.0) place ws ∙ sym (map_map (λ x. (entry x).0) (λ (w : Word). w.text) ws))
+    names_sorted (map place ws) ∙ ap sort_names (map-map (λ (x : Bytes × ℕ). x.0) place ws ∙ sym (map-map (λ x. (entry x).0) (λ (w : Word). w.text) ws))
 
 pub part_names : (gs : List (List Word)) → names_of (part_places gs) ≡ sort_names (map second gs)
 part_names gs =
     let place : List Word → Bytes × ℕ = λ ws. (second ws, place_in ws 1) in
-    names_sorted (map place gs) ∙ ap sort_names (map_map (λ (x : Bytes × ℕ). x.0) place gs)
+    names_sorted (map place gs) ∙ ap sort_names (map-map (λ (x : Bytes × ℕ). x.0) place gs)
 
 -- what an accepted text has passed
 pub record Passed (s : Sections) (d : Drawn) : Type 0 where

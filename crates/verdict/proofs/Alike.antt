@@ -12,7 +12,7 @@ use Rattle.verdict.specs.Limits.{new_name, Taken, taking}
 use Rattle.verdict.specs.Sections.{Next}
 use Rattle.verdict.specs.Verdict.{Read, read, ◌>>=◌, at, macro_name, check_macro_names, macro_table, entry, check_list, place_in, next_word, settle, read_parts, item_known, check_items, check_expressions}
 use Rattle.verdict.specs.Lines.{Reordered, keep, swap, twice}
-use Rattle.verdict.proofs.Inversions.{read_same, not_read, bind_read, at_read}
+use Rattle.verdict.proofs.Inversions.{read_same, good_same, not_read, bind_read, at_read, bind_good}
 use Rattle.verdict.proofs.Readings.{made, not_missing}
 use Rattle.verdict.proofs.Claims.{taking_all, AllRoom, plus_all, all_from, all_to, room_append, room_split}
 
@@ -113,11 +113,11 @@ settle_reads ws next k (claims c i r) pk e =
     (s.0, ap (λ j. judging.◌>>=◌ j (λ k'. taking_all k' (claims_of r))) (at_read (place_in ws i) (taking k c) b.0 b.1) ∙ s.1)
 
 reads_settle : (ws : List Word) (next : Next) (k k' : Taken) (r : Reading Part) → Reads r → taking_all k (claims_of r) ≡ good k' → settle ws next k r ≡ read (made r, k')
-reads_settle ws next k k' (reads p) h e = ap (λ (j : Taken). read (p, j)) (Rattle.verdict.proofs.Claims.good_is k k' e)
+reads_settle ws next k k' (reads p) h e = ap (λ (j : Taken). read (p, j)) (good_same k k' e)
 reads_settle ws next k k' (refuses n i) h e = absurd h
 reads_settle ws next k k' (lacks n) h e = absurd h
 reads_settle ws next k k' (claims c i r) h e =
-    let b = Rattle.verdict.proofs.Inversions.bind_good (taking k c) (λ j. taking_all j (claims_of r)) k' e in
+    let b = bind_good (taking k c) (λ j. taking_all j (claims_of r)) k' e in
     read_bind (at (place_in ws i) (taking k c)) _ b.0 (read (made r, k')) (at_good (place_in ws i) (taking k c) b.0 b.1) (reads_settle ws next b.0 k' r h b.2)
 
 module _ (t : Table) where

@@ -1,5 +1,6 @@
 -- Every accepted circuit is sound: each check that its text passed is one of the facts.
 use Rattle.std.proofs.Common.{◌≡◌, ℕ, suc, ◌+◌, ◌-◌, ◌<◌, ◌≤◌, Bool, true, false, cond, not, ltb, leb, ◌⊎◌, List, [], ◌∷◌, map, length, get_or, sym, refl, ap, ◌∙◌, subst, inl, inr, arith}
+use mathlib.Core.List.{map-map}
 use lib.ListN.{length-map}
 use Rattle.std.proofs.lemmas.Bool.{or_parts}
 use Rattle.scan.specs.Names.{Bytes, is_name, same, before, among}
@@ -21,11 +22,12 @@ use Rattle.verdict.proofs.Inversions.{read_same, not_read, bind_read, at_read, c
 use Rattle.verdict.proofs.Readings.{not_missing, Apart, read_parts_apart, apart_distinct, name_new}
 use Rattle.verdict.proofs.Claims.{Room, plus, room_from}
 use Rattle.verdict.proofs.Ranks.{second, read_parts_names, insert_name, sort_names, names_sorted}
-use Rattle.verdict.proofs.Theorem.{map_map, short_read}
+use Rattle.verdict.proofs.Theorem.{short_read}
 use Rattle.verdict.proofs.Alike.{Each, ListNew, list_new, PartKnown, expressions_known}
 use Rattle.verdict.proofs.Accepted.{list_names, part_names, passed, PartsPassed, parts_passed, accepted_drawn}
 use Rattle.verdict.proofs.Circular.{circular_exactly}
-use Rattle.verdict.proofs.Unranked.{all_map, among_sort, all_sort}
+use Rattle.verdict.proofs.Circular.{length_sorted}
+use Rattle.verdict.proofs.Unranked.{all_map, all_name_insert, among_sort, all_sort}
 use Rattle.verdict.proofs.Sounds.{IsPart, read_part_res, settle_res}
 use Rattle.verdict.proofs.ReadBack.{reads_back}
 
@@ -56,18 +58,6 @@ module _ {X : Type 0} where
   sum_sorted f [] = refl
   sum_sorted f (e ∷ es) = sum_insert f e (sorted es) ∙ ap (λ x. f e + x) (sum_sorted f es)
 
-  length_insert : (e : Bytes × X) (es : List (Bytes × X)) → length (insert e es) ≡ suc (length es)
-  length_insert e [] = refl
-  length_insert e (x ∷ es) = by (before e.0 x.0) (length_insert e es)
-    where
-      by : (b : Bool) → length (insert e es) ≡ suc (length es) → length (cond b (e ∷ x ∷ es) (x ∷ insert e es)) ≡ suc (suc (length es))
-      by true g = refl
-      by false g = ap suc g
-
-  length_sorted : (es : List (Bytes × X)) → length (sorted es) ≡ length es
-  length_sorted [] = refl
-  length_sorted (e ∷ es) = length_insert e (sorted es) ∙ ap suc (length_sorted es)
-
 all_mapped : {X Y : Type 0} (P : Y → Type 0) (f : X → Y) (xs : List X) → All (λ x. P (f x)) xs → All P (map f xs)
 all_mapped P f [] h = tt
 all_mapped P f (x ∷ xs) h = (h.0, all_mapped P f xs h.1)
@@ -84,14 +74,6 @@ all_unsort : (P : Bytes → Type 0) (ns : List Bytes) → All P (sort_names ns) 
 all_unsort P [] h = tt
 all_unsort P (n ∷ ns) h = let r = all_uninsert P n (sort_names ns) h in (r.0, all_unsort P ns r.1)
 
-insert_all : (P : Bytes → Type 0) (n : Bytes) (ns : List Bytes) → P n → All P ns → All P (insert_name n ns)
-insert_all P n [] p h = (p, tt)
-insert_all P n (x ∷ ns) p h = by (before n x) (insert_all P n ns p h.1)
-  where
-    by : (b : Bool) → All P (insert_name n ns) → All P (cond b (n ∷ x ∷ ns) (x ∷ insert_name n ns))
-    by true g = (p, h)
-    by false g = (h.0, g)
-
 ascending_insert : (n : Bytes) (ns : List Bytes) → Ascending ns → among ns n ≡ false → Ascending (insert_name n ns)
 ascending_insert n [] h a = (tt, tt)
 ascending_insert n (x ∷ ns) h a =
@@ -100,7 +82,7 @@ ascending_insert n (x ∷ ns) h a =
   where
     by : (b : Bool) → before n x ≡ b → Ascending (insert_name n ns) → (x ≡ n → ⊥) → Ascending (cond b (n ∷ x ∷ ns) (x ∷ insert_name n ns))
     by true e g d = ((e, all_map (λ m. before x m ≡ true) (λ m. before n m ≡ true) ns (λ m k. before_trans n x m e k) h.0), h)
-    by false e g d = (insert_all (λ m. before x m ≡ true) n ns (before_flip x n d ∙ ap not e) h.0, g)
+    by false e g d = (all_name_insert (λ m. before x m ≡ true) n ns (before_flip x n d ∙ ap not e) h.0, g)
 
 sort_ascends : (ns : List Bytes) → Distinct ns → Ascending (sort_names ns)
 sort_ascends [] d = tt
@@ -242,10 +224,10 @@ module _ (t : Table) (s : Sections) (d : Drawn) (p : PartsPassed t s d) (list : 
   listed_places = list_names s.listed
 
   listed_names : names_of (map entry (texts s.listed)) ≡ L
-  listed_names = map_map (λ (e : Bytes × Bool). e.0) entry (texts s.listed)
+  listed_names = map-map (λ (e : Bytes × Bool). e.0) entry (texts s.listed)
 
   ranked_names : names_of the_parts ≡ names
-  ranked_names = map_map (λ (e : Bytes × Body ℕ). e.0) (λ (q : Part). (q.0, rank_body names q.1)) (sorted ps)
+  ranked_names = map-map (λ (e : Bytes × Body ℕ). e.0) (λ (q : Part). (q.0, rank_body names q.1)) (sorted ps)
 
   lengths : length names ≡ length the_parts
   lengths = length-map (sorted ps) (λ (e : Part). e.0) ∙ sym (length-map (sorted ps) (λ (q : Part). (q.0, rank_body names q.1)))
@@ -268,7 +250,7 @@ module _ (t : Table) (s : Sections) (d : Drawn) (p : PartsPassed t s d) (list : 
   new = list_new [] s.listed tt list
 
   sum_ranked : (f : Body ℕ → ℕ) → sum (map (λ (q : Bytes × Body ℕ). f q.1) the_parts) ≡ sum (map (λ (q : Part). f (rank_body names q.1)) ps)
-  sum_ranked f = ap sum (map_map (λ (q : Bytes × Body ℕ). f q.1) (λ (q : Part). (q.0, rank_body names q.1)) (sorted ps)) ∙ sum_sorted (λ (q : Part). f (rank_body names q.1)) ps
+  sum_ranked f = ap sum (map-map (λ (q : Bytes × Body ℕ). f q.1) (λ (q : Part). (q.0, rank_body names q.1)) (sorted ps)) ∙ sum_sorted (λ (q : Part). f (rank_body names q.1)) ps
 
   pub sound_circuit : (order : (v : List ℕ) × SetsInOrder (circuit_of (map entry (texts s.listed)) ps) v) → Sound (circuit_of (map entry (texts s.listed)) ps)
   sound_circuit order = record {

@@ -1,5 +1,5 @@
 -- Whether all claims can be taken does not depend on their order: sums are the same in any order, and so is that no name stands twice.
-use Rattle.std.proofs.Common.{◌≡◌, ℕ, suc, ◌+◌, ◌<◌, ◌≤◌, Bool, true, false, not, ◌||◌, ltb, leb, List, [], ◌∷◌, ◌++◌, length, sym, refl, ap, ◌∙◌, subst, arith}
+use Rattle.std.proofs.Common.{◌≡◌, suc, ◌+◌, ◌<◌, ◌≤◌, true, false, not, ◌||◌, ltb, leb, List, [], ◌∷◌, ◌++◌, length, sym, refl, ap, ◌∙◌, subst, arith}
 use Rattle.std.proofs.lemmas.Bool.{or_parts, or_from, not-true, not_from_false, leb-true, le-leb, ltb-true, lt-ltb}
 use Rattle.scan.specs.Names.{Bytes, is_name, same, among}
 use Rattle.numbers.specs.Judged as judging
@@ -8,7 +8,7 @@ use Rattle.verdict.specs.Parts.{Claim, a_name, some_items, some_words}
 use Rattle.verdict.specs.Limits.{new_name, Taken, taking}
 use Rattle.verdict.specs.Lines.{Reordered, nothing, keep, swap, twice}
 use Rattle.verdict.proofs.Orders.{same_not, not_same, or_swap}
-use Rattle.verdict.proofs.Inversions.{bind_good, check_good}
+use Rattle.verdict.proofs.Inversions.{good_same, bind_good, check_good, check_true, bind_is}
 
 -- all claims taken, one after the other
 abbrev pub taking_all : Taken → List Claim → Judged Taken
@@ -35,13 +35,6 @@ name_from met n u h =
     let c = bind_good (check (ltb (length met) 64) 16) _ u b.2 in
     record { formed = check_good (is_name n) 11 b.0 b.1; room = ltb-true (length met) 64 (check_good (ltb (length met) 64) 16 c.0 c.1); unmet = not-true (among met n) (check_good (not (among met n)) 17 u c.2) }
 
-check_true : (b : Bool) (n : ℕ) → b ≡ true → check b n ≡ good tt
-check_true true n e = refl
-check_true false n e = absurd (Rattle.std.proofs.lemmas.Bool.false≢true e)
-
-bind_is : {X Y : Type 0} (m : Judged X) (f : X → Judged Y) (x : X) (y : Y) → m ≡ good x → f x ≡ good y → judging.◌>>=◌ m f ≡ good y
-bind_is m f x y e h = ap (λ z. judging.◌>>=◌ z f) e ∙ h
-
 pub name_to : (met : List Bytes) (n : Bytes) → NewName met n → new_name met n ≡ good tt
 name_to met n h =
     bind_is (check (is_name n) 11) _ tt tt (check_true (is_name n) 11 h.formed)
@@ -59,19 +52,16 @@ Room k (a_name n) = NewName k.names n
 Room k (some_items e) = k.items + length e ≤ 2048
 Room k (some_words n) = k.memory + n ≤ 4096
 
-pub good_is : {X : Type 0} (x y : X) → good x ≡ good y → x ≡ y
-good_is x y e = cc
-
 pub room_from : (k k' : Taken) (c : Claim) → taking k c ≡ good k' → Room k c × (plus k c ≡ k')
 room_from k k' (a_name n) h =
     let b = bind_good (new_name k.names n) _ k' h in
-    (name_from k.names n b.0 b.1, good_is _ k' b.2)
+    (name_from k.names n b.0 b.1, good_same _ k' b.2)
 room_from k k' (some_items e) h =
     let b = bind_good (check (leb (k.items + length e) 2048) 16) _ k' h in
-    (leb-true (k.items + length e) 2048 (check_good (leb (k.items + length e) 2048) 16 b.0 b.1), good_is _ k' b.2)
+    (leb-true (k.items + length e) 2048 (check_good (leb (k.items + length e) 2048) 16 b.0 b.1), good_same _ k' b.2)
 room_from k k' (some_words n) h =
     let b = bind_good (check (leb (k.memory + n) 4096) 16) _ k' h in
-    (leb-true (k.memory + n) 4096 (check_good (leb (k.memory + n) 4096) 16 b.0 b.1), good_is _ k' b.2)
+    (leb-true (k.memory + n) 4096 (check_good (leb (k.memory + n) 4096) 16 b.0 b.1), good_same _ k' b.2)
 
 room_to : (k : Taken) (c : Claim) → Room k c → taking k c ≡ good (plus k c)
 room_to k (a_name n) h = bind_is (new_name k.names n) _ tt (plus k (a_name n)) (name_to k.names n h) refl
@@ -141,7 +131,7 @@ plus_all k [] = k
 plus_all k (c ∷ cs) = plus_all (plus k c) cs
 
 pub all_from : (k k' : Taken) (cs : List Claim) → taking_all k cs ≡ good k' → AllRoom k cs × (plus_all k cs ≡ k')
-all_from k k' [] h = (tt, good_is k k' h)
+all_from k k' [] h = (tt, good_same k k' h)
 all_from k k' (c ∷ cs) h =
     let b = bind_good (taking k c) (λ x. taking_all x cs) k' h in
     let r = room_from k b.0 c b.1 in

@@ -6,7 +6,6 @@ use Rattle.std.proofs.lemmas.List.{take_all}
 use Rattle.std.proofs.lemmas.Str.Parse.{digit_from_value}
 use Rattle.std.proofs.lemmas.Fmt.{decimal_is_IsNumeral, length-decimal-le}
 use Rattle.scan.specs.Names.{Bytes, is_letter, is_digit, is_letter_or_digit, is_name, all}
-use Rattle.numbers.specs.Judged as judging
 use Rattle.numbers.specs.Judged.{Judged, good, check, both, front, every}
 use Rattle.numbers.specs.Splits.{split}
 use Rattle.numbers.specs.Numbers.{sum, number}
@@ -15,14 +14,9 @@ use Rattle.verdict.specs.Items.{Item, constant, bits, Expression, width, number_
 use Rattle.verdict.specs.Macros.{Piece, plain, opens_use, used_name, piece_at, pieces_from, Table, names_of, put_in, filled, is_known, all_known, field, expression_field, number_field, size_field, size_number, size, given}
 use Rattle.verdict.specs.Listing.{joined_by, item_text, expression_text}
 use Rattle.verdict.specs.Sound.{All, ProperName, SoundItem, SoundExpression}
+use Rattle.verdict.proofs.Inversions.{check_true, bind_is}
 use Rattle.verdict.proofs.Pieces.{Without, split_none, split_at}
 use Rattle.verdict.proofs.Scans.{Within, within_append, within_less, spans}
-
-pub check_true : (b : Bool) (n : ℕ) → b ≡ true → check b n ≡ good tt
-check_true b n e = ap (λ x. check x n) e
-
-pub bind_is : {X Y : Type 0} (m : Judged X) (f : X → Judged Y) (x : X) (y : Y) → m ≡ good x → f x ≡ good y → judging.◌>>=◌ m f ≡ good y
-bind_is m f x y e h = ap (λ z. judging.◌>>=◌ z f) e ∙ h
 
 -- NUMBERS
 

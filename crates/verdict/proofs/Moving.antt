@@ -1,5 +1,6 @@
 -- A verdict moves with the places of the words: what is read is the same, and a refusal is at the moved place.
 use Rattle.std.proofs.Common.{◌≡◌, ℕ, zero, suc, ◌+◌, ◌-◌, Bool, true, false, cond, not, List, [], ◌∷◌, ◌++◌, map, length, get_or, sym, refl, ap, ◌∙◌, ap₂, arith}
+use mathlib.Core.List.{map-map}
 use Rattle.scan.specs.Names.{Bytes, among, all, before}
 use Rattle.scan.specs.Words.{Word, texts}
 use Rattle.numbers.specs.Judged.{Judged, good, bad, check}
@@ -11,7 +12,6 @@ use Rattle.verdict.specs.Sections.{Next, word_from, text_end, begins_macro, Macr
 use Rattle.verdict.specs.Circles.{on_circle}
 use Rattle.verdict.specs.Circuit.{insert, sorted, circuit_of, needs}
 use Rattle.verdict.specs.Verdict.{Read, read, refuse, ◌>>=◌, at, refuse_first, places, stop_at, macro_name, check_macro_names, macro_table, macro_places, macro_needs, check_macros, entry, check_list, place_in, next_word, missing, settle, read_parts, list_places, part_places, check_among, item_known, check_items, check_expressions, check_whole, Drawn, drawn_parts, drawn_from, check_circles, Verdict, accepted, refused, unless, verdict_of}
-use Rattle.verdict.proofs.Theorem.{map_map}
 
 cond_ap : {X Y : Type 0} (f : X → Y) (b : Bool) (x y : X) → f (cond b x y) ≡ cond b (f x) (f y)
 cond_ap f true x y = refl
@@ -41,7 +41,7 @@ module _ (f : ℕ → ℕ) where
   -- SECTIONS
 
   pub texts_mv : (ws : List Word) → texts (map mv ws) ≡ texts ws
-  texts_mv ws = map_map (λ (w : Word). w.text) mv ws
+  texts_mv ws = map-map (λ (w : Word). w.text) mv ws
 
   macro_words_mv : (ws : List Word) → macro_words (map mv ws) ≡ mv_macros (macro_words ws)
   macro_words_mv [] = refl
@@ -129,10 +129,10 @@ module _ (f : ℕ → ℕ) where
   sorted_mv (e ∷ es) = ap (insert (mv_entry e)) (sorted_mv es) ∙ insert_mv e (sorted es)
 
   places_mv : (es : List (Bytes × ℕ)) → places (map mv_entry es) ≡ map f (places es)
-  places_mv es = map_map (λ (e : Bytes × ℕ). e.1) mv_entry es ∙ sym (map_map f (λ (e : Bytes × ℕ). e.1) es)
+  places_mv es = map-map (λ (e : Bytes × ℕ). e.1) mv_entry es ∙ sym (map-map f (λ (e : Bytes × ℕ). e.1) es)
 
   names_mv : (es : List (Bytes × ℕ)) → names_of (map mv_entry es) ≡ names_of es
-  names_mv es = map_map (λ (e : Bytes × ℕ). e.0) mv_entry es
+  names_mv es = map-map (λ (e : Bytes × ℕ). e.0) mv_entry es
 
   -- MACROS AND LIST
 
@@ -142,12 +142,12 @@ module _ (f : ℕ → ℕ) where
       bind_mv same same (at w.at (new_name met (macro_name w.text))) _ _ _ (at_mv w.at (new_name met (macro_name w.text))) (λ u. check_macro_names_mv (macro_name w.text ∷ met) ws)
 
   macro_table_mv : (ms : List (Word × Word)) → macro_table (map mv_pair ms) ≡ macro_table ms
-  macro_table_mv ms = map_map (λ (m : Word × Word). (macro_name m.0.text, m.1.text)) mv_pair ms
+  macro_table_mv ms = map-map (λ (m : Word × Word). (macro_name m.0.text, m.1.text)) mv_pair ms
 
   macro_places_mv : (ms : List (Word × Word)) → macro_places (map mv_pair ms) ≡ map mv_entry (macro_places ms)
   macro_places_mv ms =
       let place : Word × Word → Bytes × ℕ = λ m. (macro_name m.0.text, m.0.at) in
-      ap sorted (map_map place mv_pair ms ∙ sym (map_map mv_entry place ms)) ∙ sorted_mv (map place ms)
+      ap sorted (map-map place mv_pair ms ∙ sym (map-map mv_entry place ms)) ∙ sorted_mv (map place ms)
 
   check_macros_mv : (t : Table) (ps : List ℕ) → check_macros t (map f ps) ≡ mv_read same (check_macros t ps)
   check_macros_mv t ps =
@@ -178,12 +178,12 @@ module _ (f : ℕ → ℕ) where
   list_places_mv : (ws : List Word) → list_places (map mv ws) ≡ map mv_entry (list_places ws)
   list_places_mv ws =
       let place : Word → Bytes × ℕ = λ w. ((entry w.text).0, w.at) in
-      ap sorted (map_map place mv ws ∙ sym (map_map mv_entry place ws)) ∙ sorted_mv (map place ws)
+      ap sorted (map-map place mv ws ∙ sym (map-map mv_entry place ws)) ∙ sorted_mv (map place ws)
 
   check_among_mv : (n : ℕ) (others : List Bytes) (es : List (Bytes × ℕ)) → check_among n others (map mv_entry es) ≡ mv_read same (check_among n others es)
   check_among_mv n others es =
       let missed : Bytes × ℕ → Bool = λ e. not (among others e.0) in
-      ap₂ (refuse_first n) (map_map missed mv_entry es) (places_mv es) ∙ refuse_first_mv n (map missed es) (places es)
+      ap₂ (refuse_first n) (map-map missed mv_entry es) (places_mv es) ∙ refuse_first_mv n (map missed es) (places es)
 
   module _ (z : f 0 ≡ 0) where
     -- PARTS

@@ -1,5 +1,6 @@
 -- A part's name is its second word, and sorting looks at names alone: so the places told go with the circuit's parts.
 use Rattle.std.proofs.Common.{◌≡◌, ℕ, Bool, true, false, cond, leb, List, [], ◌∷◌, map, length, get_or, drop, sym, refl, ap, ◌∙◌, ap₂}
+use mathlib.Core.List.{map-map}
 use Rattle.scan.specs.Names.{Bytes, before}
 use Rattle.scan.specs.Words.{Word, texts}
 use Rattle.verdict.specs.Macros.{Table, names_of, finished}
@@ -12,7 +13,7 @@ use Rattle.verdict.specs.Verdict.{read, at, place_in, next_word, settle, read_pa
 use Rattle.verdict.specs.Lines.{NamesByRank}
 use Rattle.verdict.proofs.Inversions.{read_same, not_read, bind_read}
 use Rattle.verdict.proofs.Readings.{not_missing}
-use Rattle.verdict.proofs.Theorem.{drawn_parts_means, drawn_from_parts, short_read, map_map}
+use Rattle.verdict.proofs.Theorem.{drawn_parts_means, drawn_from_parts, short_read}
 
 -- what is read at the end is a part of this name
 NamedBy : Bytes → Reading Part → Type 0
@@ -98,9 +99,9 @@ by_rank t s d e =
     let entry_of : List Word → Bytes × ℕ = λ ws. (second ws, place_in ws 1) in
     ap names_of m.4
     ∙ (names_sorted (map entry_of s.parts)
-    ∙ (ap sort_names (map_map (λ (x : Bytes × ℕ). x.0) entry_of s.parts ∙ read_parts_names t s.after_parts nothing s.parts m.0 m.1)
+    ∙ (ap sort_names (map-map (λ (x : Bytes × ℕ). x.0) entry_of s.parts ∙ read_parts_names t s.after_parts nothing s.parts m.0 m.1)
     ∙ (sym (names_sorted m.0)
-    ∙ (sym (map_map (λ (x : Bytes × parts.Body ℕ). x.0) (λ (p : Part). (p.0, rank_body (names_of (sorted m.0)) p.1)) (sorted m.0))
+    ∙ (sym (map-map (λ (x : Bytes × parts.Body ℕ). x.0) (λ (p : Part). (p.0, rank_body (names_of (sorted m.0)) p.1)) (sorted m.0))
     ∙ sym (ap (λ (c : Circuit). names_of c.parts) m.2)))))
 
 pub names_by_rank : NamesByRank

@@ -1,5 +1,6 @@
 -- The listing of a sound circuit is read back as it: its words are those that were written, each part's words say that part, and no check refuses them.
 use Rattle.std.proofs.Common.{◌≡◌, ℕ, ◌+◌, ◌-◌, ◌*◌, ◌<◌, ◌≤◌, Bool, true, false, not, ◌⊎◌, List, [], ◌∷◌, ◌++◌, map, length, get_or, sym, refl, ap, ◌∙◌, subst, ap₂, inl, inr, arith, length-append}
+use mathlib.Core.List.{map-map}
 use lib.ListN.{length-map}
 use Rattle.std.proofs.lemmas.Bool.{ne_eqb, eq-eqb, le-leb, not_from_true, not_from_false, cond-true, cond-false}
 use Rattle.std.proofs.lemmas.List.{append-nil, take_at, get_or_push}
@@ -17,15 +18,15 @@ use Rattle.verdict.specs.Verdict.{read, refuse, refuse_first, places, entry, end
 use Rattle.verdict.specs.Lines.{SetsInOrder, Ordered, Circular}
 use Rattle.verdict.specs.Listing.{joined_by, part_texts, entry_text, in_lines, listing}
 use Rattle.verdict.specs.Sound.{All, ProperName, Ascending, SoundBody, item_count, word_count, Sound, ReadsBack}
+use Rattle.verdict.proofs.Inversions.{check_true}
 use Rattle.verdict.proofs.Readings.{made, Apart, read_parts_made}
 use Rattle.verdict.proofs.Claims.{name_to, AllRoom}
 use Rattle.verdict.proofs.Ranks.{read_parts_names, sort_names}
-use Rattle.verdict.proofs.Theorem.{map_map}
 use Rattle.verdict.proofs.Alike.{read_bind, Each, ListNew, new_list, PartReads, all_claims, room_parts, PartKnown, known_expressions}
 use Rattle.verdict.proofs.Accepted.{list_names, part_names}
 use Rattle.verdict.proofs.Circular.{circular_exactly}
 use Rattle.verdict.proofs.Scans.{within_append, within_less, placed, spans, Solid, Spaced, none, one, scan, spaced_length, spaced_append, spaced_line, in_lines_append, in_lines_first, placed_append, texts_placed, spans_append, texts_of, no_macros, up_to, Whole, flat, parts_flat}
-use Rattle.verdict.proofs.Figures.{check_true, all_at, name_bytes}
+use Rattle.verdict.proofs.Figures.{all_at, name_bytes}
 use Rattle.verdict.proofs.Retold.{gives_reads, gives_claims, gives_made, gives_known, tell_body, part_gives, Fair, no_macro, long_fair, name_fair, letter_of, inner_of, texts_are, letter_opens, letter_solid, letter_no_stop, inner_fair, part_spans}
 use Rattle.verdict.proofs.Unranked.{ascending_once, once_apart, all_among, all_map, sort_ascending, sorted_ascending, among_sort, all_sort, rank_body_holds, claims_known, all_room, claims_of_all, all_names, all_items, all_words}
 
@@ -169,7 +170,7 @@ module _ (names : List Bytes) (proper : All ProperName names) where
   rank_told a (p ∷ ps) h = ap₂ (λ (x : Body ℕ) (xs : List (Bytes × Body ℕ)). (p.0, x) ∷ xs) (rank_body_holds names a p.1 h.0.1) (rank_told a ps h.1)
 
   pub names_told : (ps : List (Bytes × Body ℕ)) → names_of (map tell_part ps) ≡ names_of ps
-  names_told ps = map_map (λ (p : Part). p.0) tell_part ps
+  names_told ps = map-map (λ (p : Part). p.0) tell_part ps
 
 pub sound_parts : (n : ℕ) (ps : List (Bytes × Body ℕ)) → All ProperName (names_of ps) → All (λ p. SoundBody n p.1) ps → All (λ p. ProperName p.0 × SoundBody n p.1) ps
 sound_parts n [] h g = tt

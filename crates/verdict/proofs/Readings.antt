@@ -12,7 +12,7 @@ use Rattle.verdict.specs.Limits.{new_name, Taken, taking}
 use Rattle.verdict.specs.Sections.{Next, word_from, text_end}
 use Rattle.verdict.specs.Verdict.{read, at, place_in, next_word, settle, read_parts}
 use Rattle.verdict.proofs.Orders.{same_refl, same_not, Distinct}
-use Rattle.verdict.proofs.Inversions.{read_same, not_read, bind_read, at_read, bind_good, check_good}
+use Rattle.verdict.proofs.Inversions.{read_same, good_same, not_read, bind_read, at_read, bind_good, check_good}
 
 -- no name is claimed, and what is read at the end has the property P
 abbrev pub Ends : {X : Type 0} → (X → Type 0) → Reading X → Type 0
@@ -139,9 +139,6 @@ settle_made ws next k (lacks n) pk e = not_missing n next pk e
 settle_made ws next k (claims c i r) pk e =
     let h = bind_read (at (place_in ws i) (taking k c)) (λ k'. settle ws next k' r) pk e in
     settle_made ws next h.0 r pk h.2
-
-good_same : {X : Type 0} (x y : X) → good x ≡ good y → x ≡ y
-good_same x y e = cc
 
 -- items and memory words leave the names as they are
 items_names : (k k' : Taken) (e : Expression Bytes) → taking k (some_items e) ≡ good k' → k.names ≡ k'.names

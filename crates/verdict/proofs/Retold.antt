@@ -15,10 +15,11 @@ use Rattle.verdict.specs.Sections.{begins_macro}
 use Rattle.verdict.specs.Verdict.{item_known}
 use Rattle.verdict.specs.Listing.{expression_text, part_texts}
 use Rattle.verdict.specs.Sound.{All, ProperName, SoundExpression, SoundBody, item_count, word_count}
+use Rattle.verdict.proofs.Inversions.{check_true}
 use Rattle.verdict.proofs.Readings.{made}
 use Rattle.verdict.proofs.Alike.{claims_of, Reads, KnownItems}
 use Rattle.verdict.proofs.Scans.{Within, within_less, spans, Solid}
-use Rattle.verdict.proofs.Figures.{check_true, tell_item, decimal_figures, decimal_within, decimal_some, decimal_long, name_bytes, number_field_holds, size_field_holds, expression_within, expression_length, expression_field_holds}
+use Rattle.verdict.proofs.Figures.{tell_item, decimal_figures, decimal_within, decimal_some, decimal_long, name_bytes, number_field_holds, size_field_holds, expression_within, expression_length, expression_field_holds}
 
 -- READINGS
 

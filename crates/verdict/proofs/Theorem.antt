@@ -1,6 +1,7 @@
 -- Two accepted texts that differ only in the order of their parts give one circuit: each part is read by itself,
 -- and parts with different names are sorted in one way.
-use Rattle.std.proofs.Common.{◌≡◌, ℕ, suc, Bool, true, false, leb, List, [], ◌∷◌, ◌++◌, map, length, sym, refl, ap, ◌∙◌, subst, ap₂, arith}
+use Rattle.std.proofs.Common.{◌≡◌, ℕ, suc, Bool, true, false, leb, List, [], ◌++◌, map, length, sym, refl, ap, ◌∙◌, subst, ap₂, arith}
+use mathlib.Core.List.{map-map}
 use Rattle.scan.specs.Names.{Bytes}
 use Rattle.scan.specs.Words.{Word, texts}
 use Rattle.verdict.specs.Macros.{Table, finished, names_of}
@@ -18,12 +19,8 @@ use Rattle.verdict.proofs.Readings.{made, read_parts_made, read_parts_apart, apa
 abbrev pub table_of : List (Bytes × Bytes) → Table
 table_of ms = map (λ m. (macro_name m.0, m.1)) ms
 
-pub map_map : {X Y Z : Type 0} (f : Y → Z) (g : X → Y) (xs : List X) → map f (map g xs) ≡ map (λ x. f (g x)) xs
-map_map f g [] = refl
-map_map f g (x ∷ xs) = ap (λ ys. f (g x) ∷ ys) (map_map f g xs)
-
 pub table_of_texts : (s : Sections) → table_of (macro_texts s) ≡ macro_table s.macros
-table_of_texts s = map_map (λ (m : Bytes × Bytes). (macro_name m.0, m.1)) (λ (m : Word × Word). (m.0.text, m.1.text)) s.macros
+table_of_texts s = map-map (λ (m : Bytes × Bytes). (macro_name m.0, m.1)) (λ (m : Word × Word). (m.0.text, m.1.text)) s.macros
 
 -- the parts that the words mean
 abbrev parts_of : List (Bytes × Bytes) → List (List Bytes) → List Part

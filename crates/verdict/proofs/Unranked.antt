@@ -1,8 +1,9 @@
 -- Names in order: what sorting, ranking and claiming make of them.
-use Rattle.std.proofs.Common.{◌≡◌, ℕ, zero, suc, ◌+◌, ◌<◌, ◌≤◌, Bool, true, false, cond, ◌&&◌, ◌||◌, eqb, ltb, List, [], ◌∷◌, ◌++◌, map, length, get_or, sym, refl, ap, ◌∙◌, subst, ap₂, arith}
+use Rattle.std.proofs.Common.{◌≡◌, ℕ, zero, suc, ◌+◌, ◌<◌, ◌≤◌, Bool, true, false, cond, ◌||◌, List, [], ◌∷◌, ◌++◌, map, length, get_or, sym, refl, ap, ◌∙◌, subst, ap₂, arith}
 use lib.ListN.{length-map}
 use Rattle.std.proofs.lemmas.Bool.{both_ways, le-ltb, and_right, and_from, or_from, or_parts, or_left, or_right, cond-true, cond-false}
 use Rattle.scan.specs.Names.{Bytes, is_name, same, before, among, all}
+use Rattle.scan.proofs.NameOrder.{names_ordered}
 use Rattle.numbers.specs.Numbers.{sum}
 use Rattle.verdict.specs.Items.{Item, constant, bits, Expression}
 use Rattle.verdict.specs.Macros.{names_of}
@@ -18,12 +19,8 @@ use Rattle.verdict.proofs.Ranks.{insert_name, sort_names}
 use Rattle.verdict.proofs.Figures.{all_at, tell_item}
 use Rattle.verdict.proofs.Retold.{tell_body, claims_for, KnownClaim}
 
-before_irrefl : (n : Bytes) → before n n ≡ false
-before_irrefl [] = refl
-before_irrefl (b ∷ n) = or_from (ltb b b) (eqb b b && before n n) (le-ltb b b (omega arith)) (and_right (eqb b b) (before n n) (before_irrefl n))
-
 before_differs : (m n : Bytes) → before m n ≡ true → m ≡ n → ⊥
-before_differs m n h e = both_ways (before m m) (before_irrefl m) (subst (λ x. before m x ≡ true) (sym e) h)
+before_differs m n h e = both_ways (before m m) (names_ordered.never m) (subst (λ x. before m x ≡ true) (sym e) h)
 
 -- EACH ONCE
 
@@ -85,9 +82,9 @@ pub among_sort : (ns : List Bytes) (m : Bytes) → among (sort_names ns) m ≡ a
 among_sort [] m = refl
 among_sort (n ∷ ns) m = among_insert n (sort_names ns) m ∙ ap (λ z. same n m || z) (among_sort ns m)
 
-all_insert : (P : Bytes → Type 0) (n : Bytes) (ns : List Bytes) → P n → All P ns → All P (insert_name n ns)
-all_insert P n [] p h = (p, tt)
-all_insert P n (x ∷ ns) p h = by (before n x) (all_insert P n ns p h.1)
+pub all_name_insert : (P : Bytes → Type 0) (n : Bytes) (ns : List Bytes) → P n → All P ns → All P (insert_name n ns)
+all_name_insert P n [] p h = (p, tt)
+all_name_insert P n (x ∷ ns) p h = by (before n x) (all_name_insert P n ns p h.1)
   where
     by : (b : Bool) → All P (insert_name n ns) → All P (cond b (n ∷ x ∷ ns) (x ∷ insert_name n ns))
     by true g = (p, h)
@@ -95,7 +92,7 @@ all_insert P n (x ∷ ns) p h = by (before n x) (all_insert P n ns p h.1)
 
 pub all_sort : (P : Bytes → Type 0) (ns : List Bytes) → All P ns → All P (sort_names ns)
 all_sort P [] h = tt
-all_sort P (n ∷ ns) h = all_insert P n (sort_names ns) h.0 (all_sort P ns h.1)
+all_sort P (n ∷ ns) h = all_name_insert P n (sort_names ns) h.0 (all_sort P ns h.1)
 
 -- RANKS
 
