@@ -1,15 +1,14 @@
 -- A number that is cut down to 2,147,483,648 at each step is told right up to that: what passes it once stays past it, since every step multiplies by 1 or more and adds.
-use Rattle.std.proofs.Common.{◌≡◌, ℕ, ◌+◌, ◌*◌, ◌<◌, ◌≤◌, min, true, false, ltb, [], ◌∷◌, length, get_or, drop, sym, refl, ap, ◌∙◌, ⊎_elim, mul-le-mul_left, mul-one, arith}
+use Rattle.std.proofs.Common.{◌≡◌, ℕ, ◌+◌, ◌*◌, ◌<◌, ◌≤◌, min, true, false, cond, ltb, [], ◌∷◌, length, get_or, drop, Some, None, Option, sym, refl, ap, ◌∙◌, ⊎_elim, mul-le-mul_left, mul-one, arith}
 use Rattle.std.proofs.lemmas.List.{drop_more, drop_all}
-use Rattle.std.proofs.lemmas.Bool.{lt-ltb, le-ltb}
 use Rattle.std.proofs.str.Laws.{order}
 use Rattle.numbers.specs.declared.rows.Base.{Base}
 use Rattle.numbers.specs.declared.rows.Base.TheVariants.{Two, Ten, Sixteen}
 use Rattle.numbers.specs.Splits.{Bytes}
 use Rattle.numbers.specs.Judged as judging
 use Rattle.numbers.specs.Judged.{Judged, good, bad, check}
-use Rattle.numbers.specs.Numbers.{digit_value, digits_after}
-use Rattle.numbers.specs.Capped.{capped, size}
+use Rattle.numbers.specs.Numbers.{digit_value, digits_after, digits}
+use Rattle.numbers.specs.Capped.{capped, told, size, digit_in}
 
 pub some_size : (base : Base) → 0 < size base
 some_size Two = omega arith
@@ -32,16 +31,40 @@ cap_same r m n (b ∷ bs) h e =
       | false ↦ refl
     ]
 
--- one more digit, at the place i of the text
-pub more : (r n d i : ℕ) (t : Bytes) → i < length t → d ≡ digit_value (get_or t i 0) → d < r → digits_after r n (drop i t) ≡ digits_after r (n * r + d) (drop (i + 1) t)
-more r n d i t h e l = rw (drop_more t i 0, ← e, lt-ltb d r l)
+-- before the first digit
+pub none_read : (r : ℕ) (t : Bytes) → 0 < length t → capped (digits_after r 0 (drop 0 t)) ≡ capped (digits r t)
+none_read r [] h = absurd (omega arith)
+none_read r (b ∷ t) h = refl
 
-pub no_digit : (r n d i : ℕ) (t : Bytes) → i < length t → d ≡ digit_value (get_or t i 0) → r ≤ d → digits_after r n (drop i t) ≡ bad 11
-no_digit r n d i t h e l = rw (drop_more t i 0, ← e, le-ltb d r l)
+-- one more digit d, at the place i of the text; w is what the digits say then, up to the cap
+pub more : (base : Base) (i d w : ℕ) (v : Option ℕ) (t : Bytes) {all : Judged ℕ} → i < length t → digit_in (size base) (get_or t i 0) ≡ Some d → w ≡ min (told v * size base + d) 2147483648 → capped (digits_after (size base) (told v) (drop i t)) ≡ all → capped (digits_after (size base) w (drop (i + 1) t)) ≡ all
+more base i d w v t h e step inv =
+    let r = size base in
+    let b = get_or t i 0 in
+    let n = told v in
+    elim (ltb (digit_value b) r) as (λ c. ltb (digit_value b) r ≡ c → cond c (Some (digit_value b)) None ≡ Some d → capped (digits_after r w (drop (i + 1) t)) ≡ capped (digits_after r n (drop i t))) [
+      | true ↦ λ lt is.
+          let same : digit_value b ≡ d = cc in
+          let cut : min w 2147483648 ≡ min (n * r + digit_value b) 2147483648 = omega arith in
+          cap_same r w (n * r + digit_value b) (drop (i + 1) t) (some_size base) cut ∙ sym (rw (drop_more t i 0 h, lt) refl)
+      | false ↦ λ lt is. absurd (let z : ◌≡◌ {A = ℕ} 0 1 = cc in omega arith)
+    ] refl e ∙ inv
+
+-- a byte that is no digit
+pub no_digit : (r n i : ℕ) (t : Bytes) {all : Judged ℕ} → i < length t → digit_in r (get_or t i 0) ≡ None → capped (digits_after r n (drop i t)) ≡ all → bad 11 ≡ all
+no_digit r n i t h e inv =
+    let b = get_or t i 0 in
+    elim (ltb (digit_value b) r) as (λ c. ltb (digit_value b) r ≡ c → cond c (Some (digit_value b)) None ≡ None → bad 11 ≡ capped (digits_after r n (drop i t))) [
+      | true ↦ λ lt is. absurd (let z : ◌≡◌ {A = ℕ} 0 1 = cc in omega arith)
+      | false ↦ λ lt is. sym (rw (drop_more t i 0 h, lt) refl)
+    ] refl e ∙ inv
 
 -- after the last digit
-pub all_read : (r v i : ℕ) (t : Bytes) {all : Judged ℕ} → length t ≤ i → v ≤ 2147483648 → capped (digits_after r v (drop i t)) ≡ all → good v ≡ all
-all_read r v i t h low e =
+pub all_read : (r i : ℕ) (v : Option ℕ) (t : Bytes) {all : Judged ℕ} → length t ≤ i → capped (digits_after r (told v) (drop i t)) ≡ all → good (told v) ≡ all
+all_read r i v t h e =
     let none = drop_all i t h in
-    let same : v ≡ min v 2147483648 = omega arith in
-    ap good same ∙ ap (λ l. capped (digits_after r v l)) (sym none) ∙ e
+    let low : told v ≡ min (told v) 2147483648 = cut v in
+    ap good low ∙ ap (λ l. capped (digits_after r (told v) l)) (sym none) ∙ e where
+      cut : (o : Option ℕ) → told o ≡ min (told o) 2147483648
+      cut (Some n) = omega arith
+      cut None = omega arith

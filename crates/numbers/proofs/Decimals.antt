@@ -9,7 +9,7 @@ use Rattle.numbers.specs.Splits.{Bytes}
 use Rattle.numbers.specs.Judged as judging
 use Rattle.numbers.specs.Judged.{good, check, front, every}
 use Rattle.numbers.specs.Numbers.{digit_value, digits_after, word_of, term_value, term, number}
-use Rattle.numbers.specs.Theorems.{NumberCases, NumbersReadBack}
+use Rattle.numbers.specs.Theorems.{NumbersReadBack}
 use Rattle.numbers.proofs.Cuts.{split_none}
 use Rattle.numbers.proofs.Sums.{word_small}
 
@@ -60,6 +60,3 @@ numbers_read_back zeros n l =
     let read = decimal_is_IsNumeral n (omega arith) in
     let same = zeros_value zeros (decimal n) ∙ read.1 in
     number_digits (replicate zeros 48 ++ decimal n) (simp length-append (omega (arith, read.0.0))) (zeros_digits zeros (decimal n) read.0.1) (omega (arith, same)) ∙ ap good same
-
-pub number_cases : NumberCases
-number_cases = (refl, refl, refl, refl)

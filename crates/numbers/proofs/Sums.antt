@@ -6,7 +6,7 @@ use Rattle.numbers.specs.Splits.{Bytes, split}
 use Rattle.numbers.specs.Judged as judging
 use Rattle.numbers.specs.Judged.{Judged, good, bad, check, front, every}
 use Rattle.numbers.specs.Numbers.{sum, digit_value, digits_after, digits, word_of, term_value, term, number}
-use Rattle.numbers.specs.Capped.{capped, raised}
+use Rattle.numbers.specs.Capped.{capped}
 
 -- the terms added one by one to what is there
 abbrev pub tally : ℕ → List Bytes → Judged ℕ
@@ -131,8 +131,8 @@ tally_same m n [] e = word_same m n e
 tally_same m n (p ∷ ps) e = then_same (term_value p) _ _ (λ k. tally_same (m + k) (n + k) ps (omega arith))
 
 -- one term more, as far as the cap tells it
-pub tally_more : (s s' : ℕ) (p : Bytes) (ps : List Bytes) → good s' ≡ capped (raised s (term_value p)) → tally s' ps ≡ tally s (p ∷ ps)
-tally_more s s' p ps e = more (term_value p) e where
-  more : (j : Judged ℕ) → good s' ≡ capped (raised s j) → tally s' ps ≡ judging.◌>>=◌ j (λ n. tally (s + n) ps)
-  more (good n) h = let cut : s' ≡ min (s + n) 2147483648 = cc in tally_same s' (s + n) ps (omega arith)
+pub tally_more : (s m s' : ℕ) (p : Bytes) (ps : List Bytes) → good m ≡ capped (term_value p) → s' ≡ min (s + m) 2147483648 → tally s' ps ≡ tally s (p ∷ ps)
+tally_more s m s' p ps e cut = more (term_value p) e where
+  more : (j : Judged ℕ) → good m ≡ capped j → tally s' ps ≡ judging.◌>>=◌ j (λ n. tally (s + n) ps)
+  more (good n) h = let same : m ≡ min n 2147483648 = cc in tally_same s' (s + n) ps (omega arith)
   more (bad k) h = let z : ◌≡◌ {A = ℕ} 0 1 = cc in absurd (omega arith)

@@ -11,7 +11,12 @@ abbrev pub judged_by : {X Y : Type 0} → (X → Y) → Result X Fault → Judge
 judged_by meaning (Ok x) = good (meaning x)
 judged_by meaning (Err fault) = bad (refusal-number fault.refusal)
 
--- the same of a word, which means its value
+-- the same of an answer that tells no place
+abbrev pub unplaced : {X Y : Type 0} → (X → Y) → Result X Refusal → Judged Y
+unplaced meaning (Ok x) = good (meaning x)
+unplaced meaning (Err refusal) = bad (refusal-number refusal)
+
+-- the judgement of a word, which means its value
 abbrev pub judged_of : Result Word Fault → Judged ℕ
 judged_of = judged_by (λ w. w.value)
 

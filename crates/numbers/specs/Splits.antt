@@ -26,8 +26,3 @@ split_left s (Some text) = split s text.now
 -- the pieces that are still to be handed out
 abbrev pub remaining : Pieces → List Bytes
 remaining p = split_left p.separator p.rest
-
--- the first of the remaining pieces is handed out, if there is one
-abbrev pub Hands : Pieces → Option (Bor Bytes) → Pieces → Type 0
-Hands before None after = (remaining before ≡ []) × (remaining after ≡ [])
-Hands before (Some piece) after = remaining before ≡ piece.now ∷ remaining after

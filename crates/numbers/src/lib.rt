@@ -2,11 +2,11 @@
 //! base. A fault stands at the place of the word that the number is part of.
 #![tactic(auto)]
 
-ghost use Rattle.std.specs.Prelude.{◌≡◌};
+ghost use Rattle.std.specs.Prelude.{◌≡◌, ◌+◌, ◌^◌, ◌⊎◌, min, IfErr};
 ghost use Rattle.refusal.specs.declared.kinds.Refusal.TheVariants.{Malformed, NumberTooLarge, OutOfRange};
 ghost use Rattle.numbers.specs.Numbers.{word_of, power, term_value, term, number, binary_value};
-ghost use Rattle.numbers.specs.Answers.{judged_by, judged_of, Placed, Only, Either};
-ghost use Rattle.numbers.specs.Capped.{capped, raised};
+ghost use Rattle.numbers.specs.Answers.{judged_of, unplaced, Placed, Either};
+ghost use Rattle.numbers.specs.Capped.{capped, told};
 ghost use Rattle.numbers.specs.Theorems.{NumberCases, NumbersReadBack};
 
 pub mod pieces;
@@ -14,54 +14,49 @@ mod rows;
 
 use pieces::Pieces;
 use refusal::kinds::{Fault, Refusal};
-use rows::{Base, OVER, row};
+use rows::{Base, row};
 use word::value::Word;
-
-/// The greatest word.
-const LIMIT: u32 = 2_147_483_647;
 
 /// How many bits a word has.
 const BITS: usize = 31;
 
 /// The number as a word, if it is one.
-fn limited(value: u32, place: usize) -> Result<Word, Fault>
-    ensures judged { judged_of result ≡ word_of value }
-    ensures placed { Placed place result }
-    ensures kind { Only NumberTooLarge result }
+fn limited(value: Option<u32>) -> Result<Word, Refusal>
+    ensures judged { unplaced (λ w. w.value) result ≡ word_of (told value) }
+    ensures kind { IfErr result (λ r. r ≡ NumberTooLarge) }
 {
-    if value <= LIMIT {
-        Ok(Word { value })
-    } else {
-        Err(Refusal::NumberTooLarge.at(place))
-    }
+    value
+        .and_then(Word::new)
+        .ok_or(Refusal::NumberTooLarge)
 }
 
-/// 2 to the power that the decimal digits say, or `OVER` where that is more.
-fn power(text: &[u8], place: usize) -> Result<u32, Fault>
-    ensures judged { judged_by (λ n. n) result ≡ capped (power text.now) }
-    ensures placed { Placed place result }
-    ensures kind { Only Malformed result }
+/// 2 to the power, or nothing where that is more than 32 bits hold.
+fn two_to(exponent: u32) -> Option<u32>
+    ensures { told result ≡ 2 ^ min exponent 31 }
 {
-    let exponent = row(text, Base::Ten, place)?;
-    if exponent < 31 {
-        Ok(1 << exponent)
-    } else {
-        Ok(OVER)
-    }
+    1_u32.checked_shl(exponent)
 }
 
-/// What a term says, or `OVER` where that is more: `%` is before binary digits, `$` before digits
-/// of base 16 and `^` before the power of two; other digits are decimal.
-fn marked(text: &[u8], place: usize) -> Result<u32, Fault>
-    ensures judged { judged_by (λ n. n) result ≡ capped (term_value text.now) }
-    ensures placed { Placed place result }
-    ensures kind { Only Malformed result }
+/// 2 to the power that the decimal digits say, or nothing where that is more than 32 bits hold.
+fn power(text: &[u8]) -> Result<Option<u32>, Refusal>
+    ensures judged { unplaced told result ≡ capped (power text.now) }
+    ensures kind { IfErr result (λ r. r ≡ Malformed) }
+{
+    let exponent = row(text, Base::Ten)?;
+    Ok(exponent.and_then(two_to))
+}
+
+/// What a term says, or nothing where that is more than 32 bits hold: `%` is before binary digits,
+/// `$` before digits of base 16 and `^` before the power of two; other digits are decimal.
+fn marked(text: &[u8]) -> Result<Option<u32>, Refusal>
+    ensures judged { unplaced told result ≡ capped (term_value text.now) }
+    ensures kind { IfErr result (λ r. r ≡ Malformed) }
 {
     match text {
-        [b'%', digits @ ..] => row(digits, Base::Two, place),
-        [b'$', digits @ ..] => row(digits, Base::Sixteen, place),
-        [b'^', digits @ ..] => power(digits, place),
-        digits => row(digits, Base::Ten, place),
+        [b'%', digits @ ..] => row(digits, Base::Two),
+        [b'$', digits @ ..] => row(digits, Base::Sixteen),
+        [b'^', digits @ ..] => power(digits),
+        digits => row(digits, Base::Ten),
     }
 }
 
@@ -71,18 +66,29 @@ pub fn term(text: &[u8], place: usize) -> Result<Word, Fault>
     ensures placed { Placed place result }
     ensures kind { Either Malformed NumberTooLarge result }
 {
-    let value = marked(text, place)?;
-    limited(value, place)
+    marked(text)
+        .and_then(limited)
+        .map_err(|refusal| refusal.at(place))
 }
 
-/// The total with a term added, or `OVER` where that is more. Only a malformed term is refused.
-fn added(total: u32, text: &[u8], place: usize) -> Result<u32, Fault>
-    ensures judged { judged_by (λ n. n) result ≡ capped (raised total (term_value text.now)) }
-    ensures placed { Placed place result }
-    ensures kind { Only Malformed result }
+/// The sum, or nothing once that is more than 32 bits hold.
+fn added(total: Option<u32>, more: Option<u32>) -> Option<u32>
+    ensures { told result ≡ min (told total + told more) 2147483648 }
 {
-    let more = marked(text, place)?;
-    Ok(total.saturating_add(more).min(OVER))
+    total?.checked_add(more?)
+}
+
+/// The word that the sum of the terms is.
+fn word_of_sum(text: &[u8]) -> Result<Word, Refusal>
+    ensures judged { unplaced (λ w. w.value) result ≡ number text.now }
+    ensures kind { IfErr result (λ r. (r ≡ Malformed) ⊎ (r ≡ NumberTooLarge)) }
+{
+    let mut total = Some(0);
+    for piece in Pieces::new(text, b'+') {
+        let more = marked(piece)?;
+        total = added(total, more);
+    }
+    limited(total)
 }
 
 /// What a number says: the sum of its terms, which are joined by `+`. A malformed term is refused,
@@ -92,11 +98,22 @@ pub fn number(text: &[u8], place: usize) -> Result<Word, Fault>
     ensures placed { Placed place result }
     ensures kind { Either Malformed NumberTooLarge result }
 {
-    let mut total = 0;
-    for piece in Pieces::new(text, b'+') {
-        total = added(total, piece, place)?;
+    word_of_sum(text).map_err(|refusal| refusal.at(place))
+}
+
+/// The word that binary digits say.
+fn word_of_bits(text: &[u8]) -> Result<Word, Refusal>
+    ensures judged { unplaced (λ w. w.value) result ≡ binary_value text.now }
+    ensures kind { IfErr result (λ r. (r ≡ Malformed) ⊎ (r ≡ OutOfRange)) }
+{
+    let value = row(text, Base::Two)?;
+    if text.len() <= BITS {
+        value
+            .and_then(Word::new)
+            .ok_or(Refusal::OutOfRange)
+    } else {
+        Err(Refusal::OutOfRange)
     }
-    limited(total, place)
 }
 
 /// What 1 to 31 binary digits say. More of them are out of range, and any other text is malformed,
@@ -106,24 +123,17 @@ pub fn binary(text: &[u8], place: usize) -> Result<Word, Fault>
     ensures placed { Placed place result }
     ensures kind { Either Malformed OutOfRange result }
 {
-    let value = row(text, Base::Two, place)?;
-    if text.len() <= BITS {
-        Ok(Word { value })
-    } else {
-        Err(Refusal::OutOfRange.at(place))
-    }
+    word_of_bits(text).map_err(|refusal| refusal.at(place))
 }
 
 /// Some numbers with what they say.
-pub fn number_cases_stand() -> u8
+pub fn number_cases_stand()
     ensures { NumberCases }
 {
-    0
 }
 
 /// A word's decimal digits, with any number of zeros in front, are read as that word.
-pub fn numbers_read_back() -> u8
+pub fn numbers_read_back()
     ensures { NumbersReadBack }
 {
-    0
 }

@@ -1,11 +1,11 @@
 //! The pieces of a text between separators.
-ghost use Rattle.std.specs.Prelude.{◌≡◌, ℕ, ◌<◌, length, IfSome, MatchOption, ◌≢◌, slice_index};
-ghost use Rattle.numbers.specs.Splits.{split, remaining, Hands};
-ghost use Rattle.std.specs.Iterator.{at_most};
+ghost use Rattle.std.specs.Prelude.{◌≡◌, ◌==◌, position};
+ghost use Rattle.std.specs.Iterator.{YieldsFirstRef, item_count};
+ghost use Rattle.numbers.specs.Splits.{split, remaining};
 
 /// Hands out the pieces of a text that stand between separators, the first piece first. A text
 /// with no separator is one piece, and two separators side by side have an empty piece between.
-#[derive(Clone, Copy)]
+#[derive(Clone, Copy, Debug, PartialEq, Eq)]
 pub struct Pieces<'a> {
     /// What is not handed out yet, or nothing once the last piece is.
     rest: Option<&'a [u8]>,
@@ -28,9 +28,9 @@ impl<'a> Pieces<'a> {
 impl<'a> Iterator for Pieces<'a> {
     type Item = &'a [u8];
 
-    ghost next_gives = { Hands };
+    ghost next_gives = { YieldsFirstRef remaining };
 
-    ghost remaining = { λ s. at_most (length (remaining s)) };
+    ghost remaining = { item_count remaining };
 
     fn next(&mut self) -> Option<&'a [u8]> {
         let rest = self.rest?;
@@ -49,14 +49,7 @@ impl<'a> Iterator for Pieces<'a> {
 
 /// Where the separator first stands in the text.
 fn find(text: &[u8], separator: u8) -> Option<usize>
-    ensures inside { IfSome result (λ i. i < length text.now) }
-    ensures here { IfSome result (λ i. slice_index text.now i ≡ separator) }
-    ensures before { MatchOption result ((k : ℕ) → k < length text.now → slice_index text.now k ≢ separator) (λ i. (k : ℕ) → k < i → slice_index text.now k ≢ separator) }
+    ensures { result ≡ position (λ byte. byte == separator) text.now }
 {
-    for (i, byte) in text.iter().enumerate() {
-        if *byte == separator {
-            return Some(i);
-        }
-    }
-    None
+    text.iter().position(|byte| *byte == separator)
 }

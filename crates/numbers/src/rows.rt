@@ -1,17 +1,14 @@
 //! Rows of digits.
-ghost use Rattle.std.specs.Prelude.{◌≡◌};
+ghost use Rattle.std.specs.Prelude.{◌≡◌, ◌+◌, ◌*◌, min, IfErr};
 ghost use Rattle.refusal.specs.declared.kinds.Refusal.TheVariants.{Malformed};
-ghost use Rattle.numbers.specs.Numbers.{digit_value, digits};
-ghost use Rattle.numbers.specs.Answers.{judged_by, Placed, Only};
-ghost use Rattle.numbers.specs.Capped.{capped, size};
+ghost use Rattle.numbers.specs.Numbers.{digits};
+ghost use Rattle.numbers.specs.Answers.{unplaced};
+ghost use Rattle.numbers.specs.Capped.{capped, told, size, digit_in};
 
-use refusal::kinds::{Fault, Refusal};
-
-/// Stands for every number that is over the greatest word.
-pub(crate) const OVER: u32 = 2_147_483_648;
+use refusal::kinds::Refusal;
 
 /// The bases that a row of digits can be written in.
-#[derive(Clone, Copy)]
+#[derive(Clone, Copy, Debug, PartialEq, Eq)]
 pub(crate) enum Base {
     Two,
     Ten,
@@ -29,37 +26,46 @@ impl Base {
             Base::Sixteen => 16,
         }
     }
+
+    /// The value of a digit of the base.
+    fn digit(self, byte: u8) -> Option<u32>
+        ensures { result ≡ digit_in (size self) byte }
+    {
+        digit(byte).filter(|digit| *digit < self.size())
+    }
+
+    /// A number with a digit behind it, or nothing once that is more than 32 bits hold.
+    fn append(self, value: Option<u32>, digit: u32) -> Option<u32>
+        ensures { told result ≡ min (told value * size self + digit) 2147483648 }
+    {
+        value?.checked_mul(self.size())?.checked_add(digit)
+    }
 }
 
-/// The value of a digit, A to F for 10 to 15, or 16 if the byte is no digit of any base.
-fn digit(byte: u8) -> u32
-    ensures { result ≡ digit_value byte }
+/// The value of a digit, A to F for 10 to 15.
+fn digit(byte: u8) -> Option<u32>
+    ensures { result ≡ digit_in 16 byte }
 {
     match byte {
-        b'0'..=b'9' => u32::from(byte - b'0'),
-        b'A'..=b'F' => u32::from(byte - b'A' + 10),
-        _ => 16,
+        b'0'..=b'9' => Some(u32::from(byte - b'0')),
+        b'A'..=b'F' => Some(u32::from(byte - b'A' + 10)),
+        _ => None,
     }
 }
 
-/// What a row of digits says in the base, or `OVER` where that is more. No digit at all, or a byte
-/// that is no digit of the base, is malformed.
-pub(crate) fn row(text: &[u8], base: Base, place: usize) -> Result<u32, Fault>
-    ensures judged { judged_by (λ n. n) result ≡ capped (digits (size base) text.now) }
-    ensures placed { Placed place result }
-    ensures kind { Only Malformed result }
+/// What a row of digits says in the base, or nothing once that is more than 32 bits hold. No digit
+/// at all, or a byte that is no digit of the base, is malformed.
+pub(crate) fn row(text: &[u8], base: Base) -> Result<Option<u32>, Refusal>
+    ensures judged { unplaced told result ≡ capped (digits (size base) text.now) }
+    ensures kind { IfErr result (λ r. r ≡ Malformed) }
 {
     if text.is_empty() {
-        return Err(Refusal::Malformed.at(place));
+        return Err(Refusal::Malformed);
     }
-    let size = base.size();
-    let mut value: u32 = 0;
+    let mut value = Some(0);
     for byte in text {
-        let more = digit(*byte);
-        if more >= size {
-            return Err(Refusal::Malformed.at(place));
-        }
-        value = value.saturating_mul(size).saturating_add(more).min(OVER);
+        let digit = base.digit(*byte).ok_or(Refusal::Malformed)?;
+        value = base.append(value, digit);
     }
     Ok(value)
 }

@@ -9,18 +9,18 @@ returns-in-37 c =
     let some : 0 < length c.args.text.now = omega (arith, ltb-false) in
     let mark : get_or c.args.text.now 0 0 ≡ 37 = omega arith in
     let told = c.row.ensures in
-    record { judged = told.judged ∙ ap capped (binary _ some mark); placed = told.placed; kind = told.kind }
+    record { judged = told.judged ∙ ap capped (binary _ some mark); kind = told.kind }
 
 pub returns-in-36 : goal.returns-in-36
 returns-in-36 c =
     let some : 0 < length c.args.text.now = omega (arith, ltb-false) in
     let mark : get_or c.args.text.now 0 0 ≡ 36 = omega arith in
     let told = c.row-in-36.ensures in
-    record { judged = told.judged ∙ ap capped (hexadecimal _ some mark); placed = told.placed; kind = told.kind }
+    record { judged = told.judged ∙ ap capped (hexadecimal _ some mark); kind = told.kind }
 
 pub returns-in-94 : goal.returns-in-94
 returns-in-94 c =
     let some : 0 < length c.args.text.now = omega (arith, ltb-false) in
     let mark : get_or c.args.text.now 0 0 ≡ 94 = omega arith in
     let told = c.power.ensures in
-    record { judged = told.judged ∙ ap capped (caret _ some mark); placed = told.placed; kind = told.kind }
+    record { judged = told.judged ∙ ap capped (caret _ some mark); kind = told.kind }

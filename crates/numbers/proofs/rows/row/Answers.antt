@@ -1,35 +1,28 @@
 -- A digit more keeps the invariant; a byte that is no digit makes the whole row malformed.
-use Rattle.std.proofs.Common.{◌≡◌, ℕ, ◌+◌, ◌*◌, ◌<◌, min, sym, ap, ◌∙◌, subst, arith}
-use Rattle.refusal.specs.Numbers.{number as refusal-number}
-use Rattle.numbers.specs.Judged.{bad}
-use Rattle.numbers.specs.Numbers.{digits}
-use Rattle.numbers.specs.Capped.{capped}
-use Rattle.numbers.proofs.Caps.{some_size, cap_same, more, no_digit, all_read}
+use Rattle.std.proofs.Common.{◌≡◌, ◌<◌, Some, None, length, get_or, arith}
+use Rattle.std.proofs.lemmas.Result.{err_from_is_err_and}
+use Rattle.refusal.specs.declared.kinds.Refusal.TheVariants.{Malformed}
+use Rattle.numbers.specs.Capped.{size, digit_in}
+use Rattle.numbers.proofs.Caps.{none_read, more, no_digit, all_read}
 use Rattle.numbers.proofs.rows.row.Goals as goal
 
-pub returns-then-more-size : goal.returns-then-more-size
-returns-then-more-size c =
-    let fault = c.at-then-more-size.ensures in
-    let byte = no_digit _ c.loop-byte.value _ _ _ c.loop-byte-test.true c.digit-more.ensures c.if-more-size.true in
-    record {
-      judged = ap (λ f. bad (refusal-number f.refusal)) fault ∙ sym (ap capped byte) ∙ c.loop-byte.invariant.1 ∙ ap (λ n. capped (digits n c.args.text.now)) c.size-size.ensures;
-      placed = ap (λ f. f.place) fault;
-      kind = ap (λ f. f.refusal) fault;
-    }
+pub loop-byte-init : goal.loop-byte-init
+loop-byte-init c =
+    let some : 0 < length c.args.text.now = grind arith in
+    none_read (size c.args.base) c.args.text.now some
+
+pub returns-in_err-digit-clause-judged : goal.returns-in_err-digit-clause-judged
+returns-in_err-digit-clause-judged c =
+    let none : digit_in (size c.args.base) (get_or c.args.text.now c.loop-byte.byte-index 0) ≡ None = grind arith in
+    let all = no_digit _ _ c.loop-byte.byte-index c.args.text.now c.loop-byte-test.true none c.loop-byte.invariant in
+    let p = err_from_is_err_and c.from_residual.result c.from_residual.ensures.1 in
+    let malformed : c.in_err-digit.field-0.0 ≡ Malformed = grind arith in
+    rw (p.1, p.2, malformed) all
 
 pub loop-byte-preserved : goal.loop-byte-preserved
 loop-byte-preserved c =
-    let some : 0 < c.size-size.result = let P : ℕ → Type 0 = λ n. 0 < n in subst P (sym c.size-size.ensures) (some_size c.args.base) in
-    let v = c.loop-byte.value * c.size-size.result + c.digit-more.result in
-    let m : min c.min-value.result 2147483648 ≡ min v 2147483648 = omega arith in (
-      omega arith,
-      cap_same c.size-size.result c.min-value.result v _ some m
-          ∙ sym (ap capped (more _ _ _ _ _ c.loop-byte-test.true c.digit-more.ensures c.if-more-size.false)) ∙ c.loop-byte.invariant.1,
-    )
+    let digit : digit_in (size c.args.base) (get_or c.args.text.now c.loop-byte.byte-index 0) ≡ Some c.in_ok-digit.digit = grind arith in
+    more c.args.base _ _ _ c.loop-byte.value c.args.text.now c.loop-byte-test.true digit c.append-value.ensures c.loop-byte.invariant
 
-pub returns : goal.returns
-returns c = record {
-  judged = all_read _ _ _ _ c.loop-byte-test.false c.loop-byte.invariant.0 c.loop-byte.invariant.1 ∙ ap (λ n. capped (digits n c.args.text.now)) c.size-size.ensures;
-  placed = tt;
-  kind = tt;
-}
+pub returns-clause-judged : goal.returns-clause-judged
+returns-clause-judged c = all_read _ _ _ _ c.loop-byte-test.false c.loop-byte.invariant
