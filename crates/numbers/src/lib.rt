@@ -48,6 +48,7 @@ fn power(text: &[u8]) -> Result<Option<u32>, Refusal>
 
 /// What a term says, or nothing where that is more than 32 bits hold: `%` is before binary digits,
 /// `$` before digits of base 16 and `^` before the power of two; other digits are decimal.
+#[tactic(auto, using(crate::proofs::Marks::opened))]
 fn marked(text: &[u8]) -> Result<Option<u32>, Refusal>
     ensures judged { unplaced told result ≡ capped (term_value text.now) }
     ensures kind { IfErr result (λ r. r ≡ Malformed) }
