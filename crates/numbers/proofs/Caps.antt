@@ -36,19 +36,19 @@ pub none_read : (r : ℕ) (t : Bytes) → 0 < length t → capped (digits_after 
 none_read r [] h = absurd (omega arith)
 none_read r (b ∷ t) h = refl
 
--- one more digit d, at the place i of the text; w is what the digits say then, up to the cap
-pub more : (base : Base) (i d w : ℕ) (v : Option ℕ) (t : Bytes) {all : Judged ℕ} → i < length t → digit_in (size base) (get_or t i 0) ≡ Some d → w ≡ min (told v * size base + d) 2147483648 → capped (digits_after (size base) (told v) (drop i t)) ≡ all → capped (digits_after (size base) w (drop (i + 1) t)) ≡ all
-more base i d w v t h e step inv =
+-- one more digit d, at the place i of the text
+pub more : (base : Base) (i d : ℕ) (v : Option ℕ) (t : Bytes) → i < length t → digit_in (size base) (get_or t i 0) ≡ Some d → capped (digits_after (size base) (min (told v * size base + d) 2147483648) (drop (i + 1) t)) ≡ capped (digits_after (size base) (told v) (drop i t))
+more base i d v t h e =
     let r = size base in
     let b = get_or t i 0 in
     let n = told v in
-    elim (ltb (digit_value b) r) as (λ c. ltb (digit_value b) r ≡ c → cond c (Some (digit_value b)) None ≡ Some d → capped (digits_after r w (drop (i + 1) t)) ≡ capped (digits_after r n (drop i t))) [
+    elim (ltb (digit_value b) r) as (λ c. ltb (digit_value b) r ≡ c → cond c (Some (digit_value b)) None ≡ Some d → capped (digits_after r (min (n * r + d) 2147483648) (drop (i + 1) t)) ≡ capped (digits_after r n (drop i t))) [
       | true ↦ λ lt is.
           let same : digit_value b ≡ d = cc in
-          let cut : min w 2147483648 ≡ min (n * r + digit_value b) 2147483648 = omega arith in
-          cap_same r w (n * r + digit_value b) (drop (i + 1) t) (some_size base) cut ∙ sym (rw (drop_more t i 0 h, lt) refl)
+          let cut : min (min (n * r + d) 2147483648) 2147483648 ≡ min (n * r + digit_value b) 2147483648 = omega arith in
+          cap_same r (min (n * r + d) 2147483648) (n * r + digit_value b) (drop (i + 1) t) (some_size base) cut ∙ sym (rw (drop_more t i 0 h, lt) refl)
       | false ↦ λ lt is. absurd (let z : ◌≡◌ {A = ℕ} 0 1 = cc in omega arith)
-    ] refl e ∙ inv
+    ] refl e
 
 -- a byte that is no digit
 pub no_digit : (r n i : ℕ) (t : Bytes) {all : Judged ℕ} → i < length t → digit_in r (get_or t i 0) ≡ None → capped (digits_after r n (drop i t)) ≡ all → bad 11 ≡ all

@@ -29,8 +29,3 @@ Placed place (Err fault) = fault.place ≡ place
 abbrev pub Either : {X : Type 0} → Refusal → Refusal → Result X Fault → Type 0
 Either this that (Ok x) = Unit {0}
 Either this that (Err fault) = (fault.refusal ≡ this) ⊎ (fault.refusal ≡ that)
-
--- a fault has this refusal
-abbrev pub Only : {X : Type 0} → Refusal → Result X Fault → Type 0
-Only this (Ok x) = Unit {0}
-Only this (Err fault) = fault.refusal ≡ this

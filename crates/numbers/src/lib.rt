@@ -25,9 +25,7 @@ fn limited(value: Option<u32>) -> Result<Word, Refusal>
     ensures judged { unplaced (λ w. w.value) result ≡ word_of (told value) }
     ensures kind { IfErr result (λ r. r ≡ NumberTooLarge) }
 {
-    value
-        .and_then(Word::new)
-        .ok_or(Refusal::NumberTooLarge)
+    value.and_then(Word::new).ok_or(Refusal::NumberTooLarge)
 }
 
 /// 2 to the power, or nothing where that is more than 32 bits hold.
@@ -80,6 +78,7 @@ fn added(total: Option<u32>, more: Option<u32>) -> Option<u32>
 }
 
 /// The word that the sum of the terms is.
+#[tactic(auto, using(crate::proofs::Sums::tally_number, crate::proofs::Sums::tally_more))]
 fn word_of_sum(text: &[u8]) -> Result<Word, Refusal>
     ensures judged { unplaced (λ w. w.value) result ≡ number text.now }
     ensures kind { IfErr result (λ r. (r ≡ Malformed) ⊎ (r ≡ NumberTooLarge)) }
@@ -109,9 +108,7 @@ fn word_of_bits(text: &[u8]) -> Result<Word, Refusal>
 {
     let value = row(text, Base::Two)?;
     if text.len() <= BITS {
-        value
-            .and_then(Word::new)
-            .ok_or(Refusal::OutOfRange)
+        value.and_then(Word::new).ok_or(Refusal::OutOfRange)
     } else {
         Err(Refusal::OutOfRange)
     }
@@ -130,11 +127,10 @@ pub fn binary(text: &[u8], place: usize) -> Result<Word, Fault>
 /// Some numbers with what they say.
 pub fn number_cases_stand()
     ensures { NumberCases }
-{
-}
+{}
 
 /// A word's decimal digits, with any number of zeros in front, are read as that word.
+#[tactic(auto, using(crate::proofs::Decimals::numbers_read_back))]
 pub fn numbers_read_back()
     ensures { NumbersReadBack }
-{
-}
+{}

@@ -55,6 +55,7 @@ fn digit(byte: u8) -> Option<u32>
 
 /// What a row of digits says in the base, or nothing once that is more than 32 bits hold. No digit
 /// at all, or a byte that is no digit of the base, is malformed.
+#[tactic(auto, using(crate::proofs::Caps::none_read, crate::proofs::Caps::more, crate::proofs::Caps::no_digit, crate::proofs::Caps::all_read))]
 pub(crate) fn row(text: &[u8], base: Base) -> Result<Option<u32>, Refusal>
     ensures judged { unplaced told result ≡ capped (digits (size base) text.now) }
     ensures kind { IfErr result (λ r. r ≡ Malformed) }
