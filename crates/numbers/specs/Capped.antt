@@ -6,13 +6,17 @@ use Rattle.numbers.specs.Judged.{Judged, good, bad}
 use Rattle.numbers.specs.Numbers.{digit_value}
 
 -- 2,147,483,648 stands for every number that is no word
+abbrev pub cut : ℕ → ℕ
+cut n = min n 2147483648
+
+-- the same of a judgement
 abbrev pub capped : Judged ℕ → Judged ℕ
-capped (good n) = good (min n 2147483648)
+capped (good n) = good (cut n)
 capped (bad k) = bad k
 
--- the same of a total, which is none once it is more than 32 bits hold
+-- a total, which is none once it is more than 32 bits hold
 abbrev pub told : Option ℕ → ℕ
-told (Some n) = min n 2147483648
+told (Some n) = cut n
 told None = 2147483648
 
 -- how many digits a base has

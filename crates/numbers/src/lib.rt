@@ -6,7 +6,7 @@ ghost use Rattle.std.specs.Prelude.{◌≡◌, ◌+◌, ◌^◌, ◌⊎◌, min,
 ghost use Rattle.refusal.specs.declared.kinds.Refusal.TheVariants.{Malformed, NumberTooLarge, OutOfRange};
 ghost use Rattle.numbers.specs.Numbers.{word_of, power, term_value, term, number, binary_value};
 ghost use Rattle.numbers.specs.Answers.{judged_of, unplaced, Placed, Either};
-ghost use Rattle.numbers.specs.Capped.{capped, told};
+ghost use Rattle.numbers.specs.Capped.{cut, capped, told};
 ghost use Rattle.numbers.specs.Theorems.{NumberCases, NumbersReadBack};
 
 pub mod pieces;
@@ -72,7 +72,7 @@ pub fn term(text: &[u8], place: usize) -> Result<Word, Fault>
 
 /// The sum, or nothing once that is more than 32 bits hold.
 fn added(total: Option<u32>, more: Option<u32>) -> Option<u32>
-    ensures { told result ≡ min (told total + told more) 2147483648 }
+    ensures { told result ≡ cut (told total + told more) }
 {
     total?.checked_add(more?)
 }

@@ -1,9 +1,9 @@
 //! Rows of digits.
-ghost use Rattle.std.specs.Prelude.{◌≡◌, ◌+◌, ◌*◌, min, IfErr};
+ghost use Rattle.std.specs.Prelude.{◌≡◌, ◌+◌, ◌*◌, IfErr};
 ghost use Rattle.refusal.specs.declared.kinds.Refusal.TheVariants.{Malformed};
 ghost use Rattle.numbers.specs.Numbers.{digits};
 ghost use Rattle.numbers.specs.Answers.{unplaced};
-ghost use Rattle.numbers.specs.Capped.{capped, told, size, digit_in};
+ghost use Rattle.numbers.specs.Capped.{cut, capped, told, size, digit_in};
 
 use refusal::kinds::Refusal;
 
@@ -36,7 +36,7 @@ impl Base {
 
     /// A number with a digit behind it, or nothing once that is more than 32 bits hold.
     fn append(self, value: Option<u32>, digit: u32) -> Option<u32>
-        ensures { told result ≡ min (told value * size self + digit) 2147483648 }
+        ensures { told result ≡ cut (told value * size self + digit) }
     {
         value?.checked_mul(self.size())?.checked_add(digit)
     }
