@@ -1,4 +1,3 @@
-pub mod Marks
 pub mod Pairs
 pub mod Tallies
 pub mod Turns

@@ -1,12 +1,11 @@
--- What the items of the code mean, and what makes a name.
+-- What the items of the code mean.
 use Rattle.std.specs.Prelude.{ℕ}
 use Rattle.circuit.specs.declared.parts.Item.{Item as CodeItem}
 use Rattle.circuit.specs.declared.parts.Item.TheVariants.{Constant, Bits}
 use Rattle.scan.specs.declared.names.Name.{Name}
-use Rattle.scan.specs.Names.{Bytes, is_name}
+use Rattle.scan.specs.Names.{Bytes}
 use Rattle.scan.specs.NameBytes.{name_bytes}
 use Rattle.word.specs.declared.value.Word.{Word}
-use Rattle.numbers.specs.Judged.{Judged, good, ◌>>=◌, check}
 use Rattle.verdict.specs.Items.{Item, constant, bits}
 
 -- a constant by its value and its width, or the bits of a part from the first through the last
@@ -17,9 +16,3 @@ item_of (Bits name range) = bits (name_bytes name) range.first range.last
 -- two words by their values
 abbrev pub values_of : Word × Word → ℕ × ℕ
 values_of p = (p.0.value, p.1.value)
-
--- the text itself, if it is a name
-abbrev pub proper_name : Bytes → Judged Bytes
-proper_name n = do
-  _ ← check (is_name n) 11
-  good n

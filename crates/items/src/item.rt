@@ -6,7 +6,7 @@ ghost use Rattle.numbers.specs.Judged.{both};
 ghost use Rattle.numbers.specs.Numbers.{number};
 ghost use Rattle.numbers.specs.Splits.{split};
 ghost use Rattle.verdict.specs.Items.{low_bits, bits_of, binary_item, number_item, name_item, begins_number, item};
-ghost use Rattle.items.specs.Meaning.{item_of, values_of, proper_name};
+ghost use Rattle.items.specs.Meaning.{item_of, values_of};
 
 use crate::smallest::both;
 use circuit::parts::Item;
@@ -29,10 +29,9 @@ fn constant(value: Word, bits: u32, place: usize) -> Result<Item<Name>, Fault>
     ensures judged { judged_by item_of result ≡ low_bits value.value bits }
     ensures placed { Placed place result }
 {
-    match Width::new(bits) {
-        Some(width) => Ok(Item::Constant(width.low(value), width)),
-        None => Err(Refusal::OutOfRange.at(place)),
-    }
+    Width::new(bits)
+        .map(|width| Item::Constant(width.low(value), width))
+        .ok_or(Refusal::OutOfRange.at(place))
 }
 
 /// Bits `first` through `last` of what a part shows.
@@ -40,10 +39,9 @@ fn bits_of(name: Name, first: u32, last: u32, place: usize) -> Result<Item<Name>
     ensures judged { judged_by item_of result ≡ bits_of (name_bytes name) first last }
     ensures placed { Placed place result }
 {
-    match Range::new(first, last) {
-        Some(range) => Ok(Item::Bits(name, range)),
-        None => Err(Refusal::OutOfRange.at(place)),
-    }
+    Range::new(first, last)
+        .map(|range| Item::Bits(name, range))
+        .ok_or(Refusal::OutOfRange.at(place))
 }
 
 /// `#` with 1 to 31 binary digits: a constant of that many bits.
@@ -52,11 +50,11 @@ fn binary_item(digits: &[u8], place: usize) -> Result<Item<Name>, Fault>
     ensures placed { Placed place result }
 {
     let value = binary(digits, place)?;
-    let bits = u32::try_from(digits.len()).unwrap_or(0);
-    match Width::new(bits) {
-        Some(width) => Ok(Item::Constant(value, width)),
-        None => Err(Refusal::OutOfRange.at(place)),
-    }
+    let width = u32::try_from(digits.len())
+        .ok()
+        .and_then(Width::new)
+        .ok_or(Refusal::OutOfRange.at(place))?;
+    Ok(Item::Constant(value, width))
 }
 
 /// What two numbers say, or the smaller fault.
@@ -73,17 +71,14 @@ fn number_item(text: &[u8], place: usize) -> Result<Item<Name>, Fault>
     ensures placed { Placed place result }
 {
     let mut pieces = Pieces::new(text, b'.');
-    let Some(value) = pieces.next() else {
-        return Err(Refusal::Malformed.at(place));
-    };
-    let Some(width) = pieces.next() else {
-        return constant(number(value, place)?, WORD_BITS, place);
-    };
-    if pieces.next().is_some() {
-        return Err(Refusal::Malformed.at(place));
+    match (pieces.next(), pieces.next(), pieces.next()) {
+        (Some(value), None, _) => constant(number(value, place)?, WORD_BITS, place),
+        (Some(value), Some(width), None) => {
+            let (value, width) = two_numbers(value, width, place)?;
+            constant(value, width.value, place)
+        }
+        _ => Err(Refusal::Malformed.at(place)),
     }
-    let (value, width) = two_numbers(value, width, place)?;
-    constant(value, width.value, place)
 }
 
 /// `name`, `name.b` or `name.b.t`: all bits, one bit, or bits b through t of a part.
@@ -92,30 +87,22 @@ fn name_item(text: &[u8], place: usize) -> Result<Item<Name>, Fault>
     ensures placed { Placed place result }
 {
     let mut pieces = Pieces::new(text, b'.');
-    let Some(name) = pieces.next() else {
-        return Err(Refusal::Malformed.at(place));
-    };
-    let name = proper_name(name, place)?;
-    let Some(first) = pieces.next() else {
-        return bits_of(name, 0, HIGHEST_BIT, place);
-    };
-    let Some(last) = pieces.next() else {
-        let bit = number(first, place)?;
-        return bits_of(name, bit.value, bit.value, place);
-    };
-    if pieces.next().is_some() {
-        return Err(Refusal::Malformed.at(place));
+    let name = pieces
+        .next()
+        .and_then(Name::read)
+        .ok_or(Refusal::Malformed.at(place))?;
+    match (pieces.next(), pieces.next(), pieces.next()) {
+        (None, _, _) => bits_of(name, 0, HIGHEST_BIT, place),
+        (Some(bit), None, _) => {
+            let bit = number(bit, place)?;
+            bits_of(name, bit.value, bit.value, place)
+        }
+        (Some(first), Some(last), None) => {
+            let (first, last) = two_numbers(first, last, place)?;
+            bits_of(name, first.value, last.value, place)
+        }
+        _ => Err(Refusal::Malformed.at(place)),
     }
-    let (first, last) = two_numbers(first, last, place)?;
-    bits_of(name, first.value, last.value, place)
-}
-
-/// The name that a text is.
-fn proper_name(text: &[u8], place: usize) -> Result<Name, Fault>
-    ensures judged { judged_by name_bytes result ≡ proper_name text.now }
-    ensures placed { Placed place result }
-{
-    Name::read(text).ok_or(Refusal::Malformed.at(place))
 }
 
 /// Whether a byte begins a number: a digit, `%`, `$` or `^`.
@@ -126,6 +113,7 @@ fn begins_number(byte: u8) -> bool
 }
 
 /// The item that a piece of an expression is. The first byte tells which kind.
+#[tactic(auto, using(numbers::proofs::Marks::opened))]
 pub fn item(text: &[u8], place: usize) -> Result<Item<Name>, Fault>
     ensures judged { judged_by item_of result ≡ item text.now }
     ensures placed { Placed place result }
@@ -133,12 +121,7 @@ pub fn item(text: &[u8], place: usize) -> Result<Item<Name>, Fault>
     match text {
         [] => Err(Refusal::Malformed.at(place)),
         [b'#', digits @ ..] => binary_item(digits, place),
-        [first, ..] => {
-            if begins_number(*first) {
-                number_item(text, place)
-            } else {
-                name_item(text, place)
-            }
-        }
+        [first, ..] if begins_number(*first) => number_item(text, place),
+        _ => name_item(text, place),
     }
 }

@@ -7,7 +7,7 @@ ghost use Rattle.items.specs.Least.{fault_number, lesser, paired, least_met, wit
 use refusal::kinds::Fault;
 
 /// The fault of the smallest number among those met.
-#[derive(Clone, Copy)]
+#[derive(Clone, Copy, Debug, PartialEq, Eq)]
 pub struct Smallest {
     met: Option<Fault>,
 }
@@ -33,15 +33,10 @@ pub fn both<X: Copy, Y: Copy>(
     ensures judged { judged_by (λ p. p) result ≡ both (judged_by (λ x. x) one) (judged_by (λ y. y) other) }
     ensures placed { (place : ℕ) → Placed place one → Placed place other → Placed place result }
 {
-    match one {
-        Ok(x) => match other {
-            Ok(y) => Ok((x, y)),
-            Err(fault) => Err(fault),
-        },
-        Err(first) => match other {
-            Ok(_) => Err(first),
-            Err(second) => Err(smaller(first, second)),
-        },
+    match (one, other) {
+        (Ok(x), Ok(y)) => Ok((x, y)),
+        (Err(first), Err(second)) => Err(smaller(first, second)),
+        (Err(fault), Ok(_)) | (Ok(_), Err(fault)) => Err(fault),
     }
 }
 
@@ -57,19 +52,13 @@ impl Smallest {
     pub fn meet(&mut self, fault: Fault)
         ensures { least_met self.new ≡ Some (with_fault (least_met self.old) fault) }
     {
-        self.met = match self.met {
-            Some(before) => Some(smaller(before, fault)),
-            None => Some(fault),
-        };
+        self.met = Some(self.met.map_or(fault, |before| smaller(before, fault)));
     }
 
     /// The smallest fault as a refusal.
     pub fn answer(self) -> Result<(), Fault>
         ensures { result ≡ refused_by (least_met self) }
     {
-        match self.met {
-            Some(fault) => Err(fault),
-            None => Ok(()),
-        }
+        self.met.map_or(Ok(()), Err)
     }
 }
