@@ -25,10 +25,12 @@ fn width_of(item: Item<Name>) -> u32
 
 /// How many items an expression has. Of all that is wrong in it the smallest number is answered, and then whether it has
 /// more than 31 bits.
+#[tactic(auto, using(crate::proofs::Tallies::tally_none, crate::proofs::Tallies::none_placed))]
 pub fn judge(field: &[u8], place: usize) -> Result<usize, Fault>
     ensures judged { judged_by (λ n. n) result ≡ counted (expression field.now) }
     ensures placed { Placed place result }
 {
+    // A loop, since a fold would carry all three. The sums saturate: any number of bits over 31 is told alike.
     let mut wrong = Smallest::new();
     let mut bits: u32 = 0;
     let mut count: usize = 0;
@@ -50,6 +52,7 @@ pub fn judge(field: &[u8], place: usize) -> Result<usize, Fault>
 
 /// Adds the items of an expression, the highest first, behind those that are there. It stops at the first item that is
 /// refused, which an expression that was judged good does not have.
+#[tactic(auto, using(crate::proofs::Turns::kept_more, crate::proofs::Turns::turn_more, crate::proofs::Turns::turn_all, crate::proofs::Turns::turn_same))]
 pub fn keep(field: &[u8], place: usize, items: &mut Vec<Item<Name>>) -> Result<(), Failure>
     ensures { Kept field.now place items.old.items items.new.items result }
 {

@@ -58,6 +58,7 @@ fn binary_item(digits: &[u8], place: usize) -> Result<Item<Name>, Fault>
 }
 
 /// What two numbers say, or the smaller fault.
+#[tactic(auto, using(crate::proofs::Pairs::both_values))]
 fn two_numbers(one: &[u8], other: &[u8], place: usize) -> Result<(Word, Word), Fault>
     ensures judged { judged_by values_of result ≡ both (number one.now) (number other.now) }
     ensures placed { Placed place result }

@@ -1,24 +1,11 @@
 -- A good item adds its width and one to the count, and a refused one can only make the least fault less.
-use Rattle.std.proofs.Common.{◌+◌, refl, ap, ◌∙◌, arith}
+use Rattle.std.proofs.Common.{◌+◌, arith}
 use Rattle.numbers.specs.Splits.{remaining}
 use Rattle.verdict.specs.Items.{width}
 use Rattle.items.specs.Meaning.{item_of}
 use Rattle.items.specs.Least.{least_met}
-use Rattle.items.proofs.Tallies.{tally_none, tally_right, tally_wrong, none_placed, least_placed}
+use Rattle.items.proofs.Tallies.{tally_right, tally_wrong, least_placed}
 use Rattle.items.proofs.expression.judge.Goals as goal
-
-pub loop-piece-init : goal.loop-piece-init
-loop-piece-init c = (
-  0,
-  0,
-  omega arith,
-  refl,
-  refl,
-  none_placed (least_met c.new-wrong.result) c.args.place c.new-wrong.ensures,
-  tally_none (least_met c.new-wrong.result) (remaining c.into_iter-piece-iterator.result) c.args.field.now
-      c.new-wrong.ensures
-      (ap remaining c.into_iter-piece-iterator.ensures.into_iter_gives ∙ c.new-piece-items.ensures),
-)
 
 pub loop-piece-preserved-in-Ok : goal.loop-piece-preserved-in-Ok
 loop-piece-preserved-in-Ok c =

@@ -1,12 +1,12 @@
--- Each item that is kept is the next one that the definition reads; a refused one is the first refused.
-use Rattle.std.proofs.Common.{◌≡◌, [], ◌∷◌, ◌++◌, map, vec_items}
+-- A refused item is the first refused.
+use Rattle.std.proofs.Common.{◌≡◌, map}
 use Rattle.std.proofs.lemmas.Result.{err_from_is_err_and}
 use Rattle.numbers.specs.Judged.{bad}
 use Rattle.numbers.specs.Splits.{remaining}
 use Rattle.items.specs.Meaning.{item_of}
 use Rattle.items.specs.Least.{fault_number}
 use Rattle.items.specs.Told.{items_in_turn}
-use Rattle.items.proofs.Turns.{kept_more, turn_more, turn_bad, turn_all, turn_same, turn_never}
+use Rattle.items.proofs.Turns.{turn_bad, turn_never}
 use Rattle.items.proofs.expression.keep.Goals as goal
 
 pub returns-in_err-item : goal.returns-in_err-item
@@ -20,21 +20,3 @@ returns-in_err-item c =
     inv.2 in
     let p = err_from_is_err_and c.from_residual.result c.from_residual.ensures.1 in
     rw (p.1, p.2) (record { new = inv.0; behind = inv.1; read = (first, told.placed); whole = λ es. turn_never c.args.field.now _ es first })
-
-pub loop-text-preserved : goal.loop-text-preserved
-loop-text-preserved c =
-    let inv = c.loop-text.invariant in
-    let one = c.in_ok-item.field-0 in (
-      inv.0 ++ one ∷ [],
-      kept_more (vec_items c.args.items.now) inv.0 (vec_items c.loop-text.items) (vec_items c.push.new.self) one c.in_ok-push.ensures.items inv.1,
-      turn_more inv.0 one c.in-Some.text.now (remaining c.next.new.self) (remaining c.loop-text.text-iterator)
-          c.in_ok-item.ensures.judged
-          c.in-Some.ensures.steps
-          inv.2,
-    )
-
-pub returns : goal.returns
-returns c =
-    let inv = c.loop-text.invariant in
-    let all : items_in_turn c.args.field.now ≡ _ = turn_all (map item_of inv.0) (remaining c.loop-text.text-iterator) c.in-None.ensures.steps.0 inv.2 in
-    record { new = inv.0; behind = inv.1; read = all; whole = λ es. turn_same c.args.field.now _ es all }
