@@ -1,5 +1,6 @@
 -- The verdict cuts words where the walks over them end: after the macros, at a stop, and before a part letter.
-use Rattle.std.proofs.Common.{◌≡◌, ℕ, suc, ◌+◌, ◌-◌, ◌<◌, ◌≤◌, Bool, true, false, cond, List, [], ◌∷◌, length, get_or, take, drop, sym, refl, ap, ◌∙◌, ap₂, arith}
+use Rattle.std.proofs.Common.{◌≡◌, ℕ, suc, ◌+◌, ◌-◌, ◌<◌, ◌≤◌, Bool, true, false, cond, List, [], ◌∷◌, length, get_or, take, drop, Some, None, sym, refl, ap, ◌∙◌, ap₂, arith, length-drop}
+use Rattle.std.specs.Prelude.{position}
 use Rattle.std.proofs.lemmas.List.{take-map, drop-map, take_all, drop_all, drop_more, drop-drop}
 use Rattle.std.proofs.lemmas.Bool.{and_from}
 use Rattle.scan.specs.Words.{Word}
@@ -11,9 +12,9 @@ use Rattle.verdict.specs.Sections.{Next, word_from, text_end, begins_macro, add_
 use Rattle.verdict.specs.Verdict.{next_word}
 use Rattle.verdict.proofs.Steps.{front, back, part_front}
 use Rattle.sections.specs.TextWords.{words_of, row_of}
-use Rattle.sections.specs.Walks.{twos, odd, marked, macro_count, until}
+use Rattle.sections.specs.Walks.{twos, odd, marked, macro_count, until, PartUpTo}
 use Rattle.sections.specs.declared.rows.Row.{Row}
-use Rattle.sections.proofs.Steps.{plain}
+use Rattle.sections.proofs.Steps.{plain, until_found, until_missed}
 
 -- STOPS
 
@@ -42,22 +43,20 @@ from_place ws i h = drop-map word_of i ws ∙ ap words_of (drop_more ws i plain 
 pub from_end : (ws : List TextWord) (i : ℕ) → length ws ≤ i → drop i (words_of ws) ≡ []
 from_end ws i h = drop-map word_of i ws ∙ ap words_of (drop_all i ws h)
 
-pub up_to_stop_holds : (end : ℕ) (ws : List TextWord) (i : ℕ) → i < length ws → until is_stop (words_of ws) ≡ i →
+pub up_to_stop_holds : (end : ℕ) (ws : List TextWord) (i : ℕ) → position (λ (w : TextWord). is_stop w.text.now) ws ≡ Some i →
     up_to_stop end (words_of ws) ≡ record { row = words_of (take i ws); next = word_from (get_or ws i plain).place; later = words_of (drop (i + 1) ws) }
-up_to_stop_holds end ws i h e =
+up_to_stop_holds end ws i at =
+    let found = until_found is_stop ws i at in
     up_to end (words_of ws)
-    ∙ (ap (λ n. closing end (take n (words_of ws)) (drop n (words_of ws))) e
-    ∙ ap₂ (closing end) (take-map word_of i ws) (from_place ws i h))
+    ∙ (ap (λ n. closing end (take n (words_of ws)) (drop n (words_of ws))) found.1
+    ∙ ap₂ (closing end) (take-map word_of i ws) (from_place ws i found.0))
 
-pub up_to_end : (end : ℕ) (ws : List TextWord) → until is_stop (words_of ws) ≡ length ws →
-    up_to_stop end (words_of ws) ≡ record { row = words_of ws; next = text_end end; later = words_of (drop (length ws) ws) }
-up_to_end end ws e =
+pub up_to_end : (end : ℕ) (ws : List TextWord) → position (λ (w : TextWord). is_stop w.text.now) ws ≡ None → up_to_stop end (words_of ws) ≡ record { row = words_of ws; next = text_end end; later = [] }
+up_to_end end ws none =
     let all : length ws ≤ length ws = omega arith in
-    let none : [] ≡ words_of (drop (length ws) ws) = sym (ap words_of (drop_all (length ws) ws all)) in
     up_to end (words_of ws)
-    ∙ (ap (λ n. closing end (take n (words_of ws)) (drop n (words_of ws))) e
-    ∙ (ap₂ (closing end) (take-map word_of (length ws) ws ∙ ap words_of (take_all (length ws) ws all)) (from_end ws (length ws) all)
-    ∙ ap (λ (r : List Word). record { row = words_of ws; next = text_end end; later = r }) none))
+    ∙ (ap (λ n. closing end (take n (words_of ws)) (drop n (words_of ws))) (until_missed is_stop ws none)
+    ∙ ap₂ (closing end) (take-map word_of (length ws) ws ∙ ap words_of (take_all (length ws) ws all)) (from_end ws (length ws) all))
 
 -- MACROS
 
@@ -133,9 +132,9 @@ part_cut : (w : Word) (ws : List Word) → part_words (w ∷ ws) ≡ (w ∷ take
 part_cut w ws = part_front w ws ∙ ap₂ (λ (f b : List Word). (w ∷ f) ∷ part_words b) (front_is ws) (back_is ws)
 
 -- the part that begins at a place ends at the next part letter
-pub part_from : (ws : List TextWord) (i r : ℕ) → i < length ws → (i + 1) + until is_part_letter (words_of (drop (i + 1) ws)) ≡ r →
+part_until : (ws : List TextWord) (i r : ℕ) → i < length ws → (i + 1) + until is_part_letter (words_of (drop (i + 1) ws)) ≡ r →
     part_words (drop i (words_of ws)) ≡ take (r - i) (drop i (words_of ws)) ∷ part_words (drop r (words_of ws))
-part_from ws i r h e =
+part_until ws i r h e =
     let w : Word = word_of (get_or ws i plain) in
     let vs : List Word = words_of (drop (i + 1) ws) in
     let n : ℕ = until is_part_letter vs in
@@ -145,6 +144,12 @@ part_from ws i r h e =
     ap part_words (from_place ws i h)
     ∙ (part_cut w vs
     ∙ ap₂ (λ (p d : List Word). p ∷ part_words d) part rest)
+
+pub part_found : (ws : List TextWord) (i n : ℕ) → i < length ws → position (λ (w : TextWord). is_part_letter w.text.now) (drop (i + 1) ws) ≡ Some n → PartUpTo (words_of ws) i (i + 1 + n)
+part_found ws i n h at = part_until ws i (i + 1 + n) h (omega (arith, (until_found is_part_letter (drop (i + 1) ws) n at).1))
+
+pub part_missed : (ws : List TextWord) (i : ℕ) → i < length ws → position (λ (w : TextWord). is_part_letter w.text.now) (drop (i + 1) ws) ≡ None → PartUpTo (words_of ws) i (length ws)
+part_missed ws i h none = part_until ws i (length ws) h (omega (arith, until_missed is_part_letter (drop (i + 1) ws) none, length-drop (i + 1) ws))
 
 pub next_word_holds : (ws : List TextWord) (i : ℕ) (end : Next) → i < length ws → word_from (get_or ws i plain).place ≡ next_word (part_words (drop i (words_of ws))) end
 next_word_holds ws i end h =

@@ -1,3 +1,4 @@
+pub mod Letters
 pub mod Steps
 pub mod Cuts
 pub mod Lacks

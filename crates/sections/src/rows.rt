@@ -1,21 +1,21 @@
 //! Rows of words, and what follows them.
-ghost use Rattle.std.specs.Prelude.{◌≡◌, ◌<◌, ◌≤◌, true, false, length, drop, IfSome, IfErr, MatchOption};
+ghost use Rattle.std.specs.Prelude.{◌≡◌, ◌<◌, ◌≤◌, true, false, length, drop, position, slice_index_or, IfErr, IfSome, IfNone, ℕ, ◌*◌};
 ghost use Rattle.refusal.specs.Numbers.{number};
 ghost use Rattle.refusal.specs.declared.kinds.Refusal.TheVariants.{TextEnds};
 ghost use Rattle.verdict.specs.Letters.{is_part_letter, is_stop};
 ghost use Rattle.verdict.specs.Sections.{begins_macro, macro_words, up_to_stop, part_words, sections_from};
 ghost use Rattle.verdict.specs.Verdict.{stop_at, missing, next_word};
+ghost use Rattle.scan.specs.declared.reader.TextWord.{TextWord};
 ghost use Rattle.sections.specs.Nexts.{next_of};
 ghost use Rattle.sections.specs.Faults.{told, read_of, lack};
 ghost use Rattle.sections.specs.TextWords.{words_of, row_of, sections_of};
 ghost use Rattle.sections.specs.Walks.{marked, macro_count, until, PartUpTo};
 
 use refusal::kinds::{Fault, Refusal};
-use scan::bytes::is_same;
 use scan::reader::TextWord;
 
 /// What follows a row of words: a word at a place, or the end of the text, at its length.
-#[derive(Clone, Copy)]
+#[derive(Clone, Copy, Debug, PartialEq, Eq)]
 pub enum Next {
     Word(usize),
     TextEnd(usize),
@@ -64,17 +64,19 @@ pub struct Sections<'w, 't> {
 }
 
 /// Whether a word is exactly the stop.
+#[tactic(auto, using(crate::proofs::Letters::longer))]
 fn is_stop(text: &[u8]) -> bool
     ensures { result ≡ is_stop text.now }
 {
-    is_same(text, b".")
+    matches!(text, b".")
 }
 
 /// Whether a word opens a part: exactly `A`, `S` or `M`.
+#[tactic(auto, using(crate::proofs::Letters::longer))]
 pub fn is_part_letter(text: &[u8]) -> bool
     ensures { result ≡ is_part_letter text.now }
 {
-    is_same(text, b"A") || is_same(text, b"S") || is_same(text, b"M")
+    matches!(text, b"A" | b"S" | b"M")
 }
 
 /// Whether a word begins a macro: its first byte is `~`.
@@ -86,15 +88,9 @@ fn begins_macro(text: &[u8]) -> bool
 
 /// Where the first stop stands.
 fn stop_in(words: &[TextWord<'_>]) -> Option<usize>
-    ensures stop { MatchOption result (until is_stop (words_of words.now) ≡ length words.now) (λ i. until is_stop (words_of words.now) ≡ i) }
-    ensures within { IfSome result (λ i. i < length words.now) }
+    ensures { result ≡ position (λ w. is_stop w.text.now) words.now }
 {
-    for i in 0..words.len() {
-        if is_stop(words[i].text) {
-            return Some(i);
-        }
-    }
-    None
+    words.iter().position(|word| is_stop(word.text))
 }
 
 /// The words up to the first stop, in a text of the length `end`.
@@ -103,16 +99,29 @@ fn up_to_stop<'w, 't>(words: &'w [TextWord<'t>], end: usize) -> Row<'w, 't>
 {
     match stop_in(words) {
         Some(at) => Row {
-            row: &words[0..at],
+            row: &words[..at],
             next: Next::Word(words[at].place),
             later: &words[at + 1..],
         },
         None => Row {
             row: words,
             next: Next::TextEnd(end),
-            later: &words[words.len()..],
+            later: &[],
         },
     }
+}
+
+/// Which of the words taken by twos is the first pair that is no macro.
+fn first_plain_pair(words: &[TextWord<'_>]) -> Option<usize>
+    ensures inside { IfSome result (λ i. i * 2 < length words.now) }
+    ensures here { IfSome result (λ i. (d : TextWord) → begins_macro (slice_index_or words.now (i * 2) d).text.now ≡ false) }
+    ensures before { IfSome result (λ i. (k : ℕ) (d : TextWord) → k < i → begins_macro (slice_index_or words.now (k * 2) d).text.now ≡ true) }
+    ensures all { IfNone result ((k : ℕ) (d : TextWord) → k * 2 < length words.now → begins_macro (slice_index_or words.now (k * 2) d).text.now ≡ true) }
+{
+    words
+        .iter()
+        .step_by(2)
+        .position(|word| !begins_macro(word.text))
 }
 
 /// How many words the macros have: the first word of each two begins with `~`.
@@ -120,14 +129,7 @@ fn macro_words(words: &[TextWord<'_>]) -> usize
     ensures count { result ≡ macro_count false (words_of words.now) }
     ensures within { result ≤ length words.now }
 {
-    let mut second = false;
-    for i in 0..words.len() {
-        if !second && !begins_macro(words[i].text) {
-            return i;
-        }
-        second = !second;
-    }
-    words.len()
+    first_plain_pair(words).map_or(words.len(), |pairs| pairs * 2)
 }
 
 /// The sections of a text of the length `end`.
@@ -139,7 +141,7 @@ pub fn sections_of<'w, 't>(words: &'w [TextWord<'t>], end: usize) -> Sections<'w
     let list = up_to_stop(&words[count..], end);
     let parts = up_to_stop(list.later, end);
     Sections {
-        macros: &words[0..count],
+        macros: &words[..count],
         listed: list.row,
         after_list: list.next,
         parts: parts.row,
@@ -147,19 +149,26 @@ pub fn sections_of<'w, 't>(words: &'w [TextWord<'t>], end: usize) -> Sections<'w
     }
 }
 
+/// How many words stand from a place on before the first part letter.
+fn letter_from(words: &[TextWord<'_>], at: usize) -> Option<usize>
+    ensures { result ≡ position (λ w. is_part_letter w.text.now) (drop at words.now) }
+{
+    words
+        .iter()
+        .skip(at)
+        .position(|word| is_part_letter(word.text))
+}
+
 /// Where the part ends that begins at `from`: before the next part letter, or at the end of the row.
+#[tactic(auto, using(crate::proofs::Cuts::part_found, crate::proofs::Cuts::part_missed))]
 pub fn part_end(words: &[TextWord<'_>], from: usize) -> usize
     ensures part { from < length words.now → PartUpTo (words_of words.now) from result }
     ensures after { from < length words.now → from < result }
     ensures within { result ≤ length words.now }
     ensures past { length words.now ≤ from → result ≡ length words.now }
 {
-    for i in from.saturating_add(1)..words.len() {
-        if is_part_letter(words[i].text) {
-            return i;
-        }
-    }
-    words.len()
+    let second = from.saturating_add(1);
+    letter_from(words, second).map_or(words.len(), |more| second + more)
 }
 
 /// What stands in a row at a place, or what follows the row.

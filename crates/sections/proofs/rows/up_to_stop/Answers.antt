@@ -6,7 +6,7 @@ use Rattle.sections.proofs.Cuts.{up_to_stop_holds, up_to_end}
 use Rattle.sections.proofs.rows.up_to_stop.Goals as goal
 
 pub returns-in-Some : goal.returns-in-Some
-returns-in-Some c = simp (sub-zero, take_rest) (sym (up_to_stop_holds c.args.end c.args.words.now c.in-Some.at c.in-Some.ensures.within c.in-Some.ensures.stop))
+returns-in-Some c = simp take_rest (sym (up_to_stop_holds c.args.end c.args.words.now c.in-Some.at (sym c.in-Some.ensures)))
 
 pub returns-in-None : goal.returns-in-None
-returns-in-None c = simp take_rest (sym (up_to_end c.args.end c.args.words.now c.in-None.ensures.stop))
+returns-in-None c = sym (up_to_end c.args.end c.args.words.now (sym c.in-None.ensures))
