@@ -94,6 +94,7 @@ fn stop_in(words: &[TextWord<'_>]) -> Option<usize>
 }
 
 /// The words up to the first stop, in a text of the length `end`.
+#[tactic(auto, using(crate::proofs::Cuts::up_to_end))]
 fn up_to_stop<'w, 't>(words: &'w [TextWord<'t>], end: usize) -> Row<'w, 't>
     ensures { row_of result ≡ up_to_stop end (words_of words.now) }
 {
@@ -133,6 +134,7 @@ fn macro_words(words: &[TextWord<'_>]) -> usize
 }
 
 /// The sections of a text of the length `end`.
+#[tactic(auto, using(crate::proofs::Cuts::marked_macros))]
 pub fn sections_of<'w, 't>(words: &'w [TextWord<'t>], end: usize) -> Sections<'w, 't>
     ensures sections { sections_of result ≡ sections_from end (macro_words (words_of words.now)) }
     ensures marked { marked (words_of result.macros.now) ≡ true }
@@ -172,11 +174,9 @@ pub fn part_end(words: &[TextWord<'_>], from: usize) -> usize
 }
 
 /// What stands in a row at a place, or what follows the row.
+#[tactic(auto, using(crate::proofs::Cuts::next_word_holds, crate::proofs::Cuts::next_end))]
 pub fn next_at(words: &[TextWord<'_>], at: usize, end: Next) -> Next
     ensures { next_of result ≡ next_word (part_words (drop at (words_of words.now))) (next_of end) }
 {
-    match words.get(at) {
-        Some(word) => Next::Word(word.place),
-        None => end,
-    }
+    words.get(at).map_or(end, |word| Next::Word(word.place))
 }

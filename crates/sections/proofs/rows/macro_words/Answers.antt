@@ -1,5 +1,5 @@
 -- By whether a pair that is no macro was found.
-use Rattle.std.proofs.Common.{◌≡◌, ℕ, ◌*◌, false, Some, None, sym, refl, ◌∙◌, rules}
+use Rattle.std.proofs.Common.{◌≡◌, ◌*◌, false, Some, None, sym, refl, ◌∙◌, rules}
 use Rattle.sections.specs.TextWords.{words_of}
 use Rattle.sections.specs.Walks.{macro_count}
 use Rattle.sections.proofs.Steps.{count_some, count_all}
