@@ -1,6 +1,6 @@
 -- Why the pieces that are handed out are the pieces of the text: a use takes the bytes of its name from the text, and another byte only itself.
-use Rattle.std.proofs.Common.{◌≡◌, ℕ, zero, suc, ◌+◌, ◌-◌, ◌<◌, ◌≤◌, Bool, true, false, cond, [], ◌∷◌, length, get_or, take, drop, Some, None, sym, refl, ap, ◌∙◌, add-one, arith}
-use Rattle.std.proofs.lemmas.List.{take_rest, nil_from_length}
+use Rattle.std.proofs.Common.{◌≡◌, ℕ, zero, suc, ◌-◌, ◌≤◌, Bool, true, false, cond, [], ◌∷◌, length, take, drop, Some, None, sym, refl, ap, ◌∙◌, arith}
+use Rattle.std.proofs.lemmas.List.{take_rest}
 use Rattle.scan.specs.Names.{Bytes}
 use Rattle.verdict.specs.Macros.{run, opens_use, used_name, piece_at, plain, macro, pieces_from, pieces}
 use Rattle.macros.specs.Uses.{use_at}
@@ -25,24 +25,17 @@ unused : (o : Bool) (m : Bytes) → None ≡ cond o (Some m) None → o ≡ fals
 unused true m e = let z : ◌≡◌ {A = ℕ} 0 1 = cc in absurd (omega arith)
 unused false m e = refl
 
-pub hands_use : (t n : Bytes) → Some n ≡ use_at t → (pieces t ≡ macro n ∷ pieces (take (length t - (length n + 1)) (drop (length n + 1) t))) × (length n + 1 ≤ length t)
-hands_use [] n e = let z : ◌≡◌ {A = ℕ} 0 1 = cc in absurd (omega arith)
-hands_use (b ∷ bs) n e =
+pub hands_use : (b : ℕ) (bs n : Bytes) → Some n ≡ use_at (b ∷ bs) → (pieces (b ∷ bs) ≡ macro n ∷ pieces (take (length bs - length n) (drop (length n) bs))) × (length n ≤ length bs)
+hands_use b bs n e =
     let u = used (opens_use b bs) n (run bs) e in (
       first_piece (opens_use b bs) b bs
           ∙ (ap (λ o. cond o (macro (run bs) ∷ pieces (drop (length (run bs)) bs)) (plain b ∷ pieces bs)) u.0
           ∙ (ap (λ m. macro m ∷ pieces (drop (length m) bs)) (sym u.1)
-          ∙ (ap (λ k. macro n ∷ pieces (drop k (b ∷ bs))) (sym (add-one (length n)))
-          ∙ ap (λ l. macro n ∷ pieces l) (sym (take_rest (b ∷ bs) (length n + 1)))))),
+          ∙ ap (λ l. macro n ∷ pieces l) (sym (take_rest bs (length n))))),
       omega (arith, run_short bs, ap length u.1),
     )
 
-pub hands_plain : (t : Bytes) → 0 < length t → None ≡ use_at t → pieces t ≡ plain (get_or t 0 0) ∷ pieces (take (length t - 1) (drop 1 t))
-hands_plain [] h e = absurd (omega arith)
-hands_plain (b ∷ bs) h e =
+pub hands_plain : (b : ℕ) (bs : Bytes) → None ≡ use_at (b ∷ bs) → pieces (b ∷ bs) ≡ plain b ∷ pieces bs
+hands_plain b bs e =
     first_piece (opens_use b bs) b bs
-    ∙ (ap (λ o. cond o (macro (run bs) ∷ pieces (drop (length (run bs)) bs)) (plain b ∷ pieces bs)) (unused (opens_use b bs) (run bs) e)
-    ∙ ap (λ l. plain b ∷ pieces l) (sym (take_rest (b ∷ bs) 1)))
-
-pub hands_none : (t : Bytes) → length t ≡ 0 → pieces t ≡ []
-hands_none t e = ap pieces (nil_from_length t e)
+    ∙ ap (λ o. cond o (macro (run bs) ∷ pieces (drop (length (run bs)) bs)) (plain b ∷ pieces bs)) (unused (opens_use b bs) (run bs) e)

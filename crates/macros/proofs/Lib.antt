@@ -3,11 +3,9 @@ pub mod Depth
 pub mod Entries
 pub mod Fields
 pub mod Handing
-pub mod Judged
 pub mod Known
 pub mod Linking
 pub mod Making
-pub mod Picking
 pub mod Runs
 pub mod Same
 pub mod Standing

@@ -1,21 +1,17 @@
 -- Why the needs that are noted one by one are all the needs, and why an order of these is an order of those.
-use Rattle.std.proofs.Common.{◌≡◌, ℕ, ◌+◌, ◌<◌, ◌≤◌, Bool, true, false, ◌&&◌, ◌||◌, eqb, ltb, List, [], ◌∷◌, length, get_or, Err, sym, refl, ap, ◌∙◌, subst, ap₂, ⊎_elim, arith}
-use Rattle.std.proofs.lemmas.List.{get_or_past}
-use Rattle.std.proofs.lemmas.Bool.{false≢true, lt-ltb, le-ltb, eq-eqb, ne_eqb, eqb-true, cases_order, cases_lt, cases_Bool}
-use Rattle.graph.specs.Answer.{Faulty}
-use Rattle.graph.specs.declared.OrderFault.{OrderFault}
-use Rattle.graph.specs.declared.OrderFault.TheVariants.{Circle, Memory}
-use Rattle.graph.specs.Needs.{Chain, OnCircle, NoCircle, LeastOnCircle, Orders}
-use Rattle.graph.proofs.Circles.{clear_from_no_circle, on_circle_holds, off_circle}
-use Rattle.graph.proofs.Closure.{chain_start}
-use Rattle.graph.specs.Reach.{reaches}
+use Rattle.std.proofs.Common.{◌≡◌, ℕ, ◌+◌, ◌<◌, Bool, true, false, ◌&&◌, ◌||◌, eqb, ltb, List, [], length, get_or, Ok, Err, vec_items, Vec, Result, sym, refl, ap, ◌∙◌, subst, ap₂, ⊎_elim, arith}
+use Rattle.std.proofs.lemmas.Bool.{false≢true, lt-ltb, le-ltb, eq-eqb, ne_eqb, eqb-true, cases_order}
+use Rattle.std.specs.declared.alloc.Global.{Global}
+use Rattle.refusal.specs.Numbers.{number}
+use Rattle.refusal.specs.declared.kinds.Failure.{Failure}
+use Rattle.refusal.specs.declared.kinds.Failure.TheVariants.{Refused, NoMemory}
+use Rattle.refusal.specs.declared.kinds.Refusal.TheVariants.{MacroCircle}
+use Rattle.names.specs.Checks.{OrderOrCircle}
+use Rattle.names.proofs.Circling.{order_told, circle_told}
 use Rattle.scan.specs.Names.{Bytes}
-use Rattle.verdict.specs.Circles.{on_circle}
 use Rattle.verdict.specs.Macros.{Table, uses_macro}
-use Rattle.verdict.specs.Verdict.{read, refuse, refuse_first, macro_needs}
-use Rattle.verdict.proofs.Circular.{flag, flags_length}
-use Rattle.macros.specs.Needs.{failure_of, circle_told, OrderTold}
-use Rattle.macros.proofs.Judged.{all_down, first_up}
+use Rattle.verdict.specs.Verdict.{refuse, macro_needs}
+use Rattle.macros.specs.Needs.{OrderTold}
 
 -- ONE NEED MORE
 
@@ -78,67 +74,13 @@ needs_more t text from k x y before after l e inv h =
     (λ s. ap (uses_macro (get_or t y ([], [])).0) (e ∙ ap (λ i. (get_or t i ([], [])).1) (sym (eqb-true x from s))))
     ∙ ap (λ b. b && macro_needs t x y) (sym (below_next x from))))
 
--- THE SAME NEEDS
+-- AN ORDER OF THE TABLE
 
-module _ (n : ℕ) (f g : ℕ → ℕ → Bool) (alike : (x y : ℕ) → x < n → y < n → f x y ≡ g x y) where
-  orders_alike : (v : List ℕ) → Orders n f v → Orders n g v
-  orders_alike v o = record {
-    within = o.within;
-    each = o.each;
-    once = o.once;
-    after = λ i j li lj h. o.after i j li lj (alike (get_or v i 0) (get_or v j 0) (o.within i li) (o.within j lj) ∙ h);
-  }
-
-  chain_alike : (a : ℕ) (xs : List ℕ) (b : ℕ) → Chain n f a xs b → Chain n g a xs b
-  chain_alike a [] b c = (c.0, c.1, sym (alike a b c.0 c.1) ∙ c.2)
-  chain_alike a (x ∷ xs) b c = ((c.0.0, c.0.1, sym (alike a x c.0.0 c.0.1) ∙ c.0.2), chain_alike x xs b c.1)
-
-  circle_alike : (a : ℕ) → OnCircle n f a → OnCircle n g a
-  circle_alike a c = (c.0, chain_alike a c.0 a c.1)
-
--- THE FLAGS OF A CIRCLE
-
-module _ (m n : ℕ) (g : ℕ → ℕ → Bool) (ps : List ℕ) (long : length ps ≡ n) where
-  down : NoCircle n g → (i : ℕ) → get_or (on_circle n g) i false ≡ false
-  down h i =
-      ⊎_elim
-      (λ (l : i < n). flag n g i l ∙ clear_from_no_circle n g h i l)
-      (λ (l : n ≤ i). get_or_past (on_circle n g) i false (omega (arith, flags_length n g)))
-      (cases_lt i n)
-
-  no_flag : NoCircle n g → refuse_first m (on_circle n g) ps ≡ read tt
-  no_flag h = all_down m (on_circle n g) ps (down h)
-
-  up : (a : ℕ) → a < n → OnCircle n g a → reaches g n a a ≡ true
-  up a l c = ⊎_elim (λ h. h) (λ h. absurd (off_circle n g a h c)) (cases_Bool (reaches g n a a))
-
-  off : (b : ℕ) → b < n → (OnCircle n g b → ⊥) → reaches g n b b ≡ false
-  off b l h = ⊎_elim (λ e. absurd (h (on_circle_holds n g b l e))) (λ e. e) (cases_Bool (reaches g n b b))
-
-  least_flag : (a : ℕ) → LeastOnCircle n g a → refuse_first m (on_circle n g) ps ≡ refuse m (get_or ps a 0)
-  least_flag a h =
-      let l : a < n = chain_start n g a h.circle.0 a h.circle.1 in
-      first_up m (on_circle n g) ps a (omega (arith, flags_length n g)) (omega arith)
-      (flag n g a l ∙ up a l h.circle)
-      (λ b lb. let k : b < n = omega arith in flag n g b k ∙ off b k (h.least b lb))
-
-module _ (t : Table) (ps : List ℕ) (n : ℕ) (f : ℕ → ℕ → Bool) (size : n ≡ length t) (long : length ps ≡ length t) (alike : (x y : ℕ) → x < n → y < n → f x y ≡ macro_needs t x y) where
-  pub order_told : (v : List ℕ) → Orders n f v → NoCircle n f → Orders (length t) (macro_needs t) v × (circle_told t ps ≡ read tt)
-  order_told v o h = (
-    subst (λ k. Orders k (macro_needs t) v) size (orders_alike n f (macro_needs t) alike v o),
-    no_flag 19 (length t) (macro_needs t) ps long
-        (λ a c. h a (circle_alike n (macro_needs t) f (λ x y lx ly. sym (alike x y lx ly)) a (subst (λ k. OnCircle k (macro_needs t) a) (sym size) c))),
-  )
-
-  circle_told_holds : (a : ℕ) → LeastOnCircle n f a → circle_told t ps ≡ refuse 19 (get_or ps a 0)
-  circle_told_holds a h =
-      least_flag 19 (length t) (macro_needs t) ps long a
-      (subst (λ k. LeastOnCircle k (macro_needs t) a) size
-      (record {
-        circle = circle_alike n f (macro_needs t) alike a h.circle;
-        least = λ b lb c. h.least b lb (circle_alike n (macro_needs t) f (λ x y lx ly. sym (alike x y lx ly)) b c);
-      }))
-
-  pub failure_told : (fault : OrderFault) → Faulty n f fault → OrderTold t ps (Err (failure_of ps fault))
-  failure_told (Circle a) h = circle_told_holds a h.0
-  failure_told Memory h = tt
+pub order_of_table : (t : Table) (ps : List ℕ) (n : ℕ) (f : ℕ → ℕ → Bool) → n ≡ length t → length ps ≡ length t → ((x y : ℕ) → x < n → y < n → f x y ≡ macro_needs t x y) → (r : Result (Vec ℕ Global) Failure) → OrderOrCircle n f ps MacroCircle r → OrderTold t ps r
+order_of_table t ps n f size long alike (Ok v) h =
+    let told = order_told 19 n (length t) f (macro_needs t) ps size long alike (vec_items v) h.0 h.1 in
+    let long-v = v.ok.0 in
+    (told.0, omega (arith, h.2, size), told.1)
+order_of_table t ps n f size long alike (Err (Refused e)) h =
+    circle_told 19 n (length t) f (macro_needs t) ps size long alike h.0 h.1 ∙ sym (ap (λ e. refuse (number e.refusal) e.place) h.3)
+order_of_table t ps n f size long alike (Err NoMemory) h = tt

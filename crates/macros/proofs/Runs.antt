@@ -1,19 +1,26 @@
--- Why the run is measured right: each letter or digit leaves the rest of the run, and another byte ends it.
-use Rattle.std.proofs.Common.{◌≡◌, ℕ, ◌+◌, ◌-◌, ◌<◌, ◌≤◌, Bool, true, false, cond, ◌&&◌, [], ◌∷◌, length, get_or, take, drop, Some, None, sym, refl, ap, ◌∙◌, arith}
-use Rattle.std.proofs.lemmas.List.{drop_more, drop_all}
+-- Why the run is measured right, and is the name with which a text begins.
+use Rattle.std.proofs.Common.{◌≡◌, ℕ, suc, ◌+◌, ◌-◌, ◌≤◌, Bool, true, false, cond, not, ◌&&◌, [], ◌∷◌, length, get_or, take, drop, Some, None, unwrap_or, sym, refl, ap, ◌∙◌, arith}
+use Rattle.std.specs.List.{position, position_from}
+use Rattle.std.proofs.lemmas.Iterator.Adapters.{position_from-zero}
 use Rattle.std.proofs.lemmas.Bool.{cond_both, eq-eqb, false≢true}
 use Rattle.scan.specs.Names.{Bytes, is_letter, is_letter_or_digit}
 use Rattle.verdict.specs.Macros.{run}
 use Rattle.macros.specs.Uses.{leading_name, use_at}
 
-pub run_more : (t : Bytes) (i : ℕ) → i < length t → is_letter_or_digit (get_or t i 0) ≡ true → length (run (drop i t)) ≡ 1 + length (run (drop (i + 1) t))
-run_more t i h e = ap (λ l. length (run l)) (drop_more t i 0 h) ∙ ap (λ b. length (cond b (get_or t i 0 ∷ run (drop (i + 1) t)) [])) e ∙ omega arith
+run_from : (k : ℕ) (t : Bytes) → unwrap_or (position_from (λ b. not (is_letter_or_digit b)) k t) (k + length t) ≡ k + length (run t)
+run_from k [] = refl
+run_from k (b ∷ bs) = by (is_letter_or_digit b) (run_from (k + 1) bs)
+  where
+    by : (c : Bool) → unwrap_or (position_from (λ b. not (is_letter_or_digit b)) (k + 1) bs) (k + 1 + length bs) ≡ k + 1 + length (run bs) →
+        unwrap_or (cond (not c) (Some k) (position_from (λ b. not (is_letter_or_digit b)) (k + 1) bs)) (k + suc (length bs)) ≡ k + length (cond c (b ∷ run bs) [])
+    by true h = ap (unwrap_or (position_from (λ b. not (is_letter_or_digit b)) (k + 1) bs)) (omega arith) ∙ h ∙ omega arith
+    by false h = omega arith
 
-pub run_ends : (t : Bytes) (i : ℕ) → i < length t → is_letter_or_digit (get_or t i 0) ≡ false → length (run (drop i t)) ≡ 0
-run_ends t i h e = ap (λ l. length (run l)) (drop_more t i 0 h) ∙ ap (λ b. length (cond b (get_or t i 0 ∷ run (drop (i + 1) t)) [])) e
-
-pub run_none : (t : Bytes) (i : ℕ) → length t ≤ i → length (run (drop i t)) ≡ 0
-run_none t i h = ap (λ l. length (run l)) (drop_all i t h)
+-- the first byte that is no letter or digit ends the run
+pub run_measured : (t : Bytes) → unwrap_or (position (λ b. not (is_letter_or_digit b)) t) (length t) ≡ length (run t)
+run_measured t =
+    ap (λ o. unwrap_or o (length t)) (position_from-zero (λ b. not (is_letter_or_digit b)) t)
+    ∙ (ap (unwrap_or (position_from (λ b. not (is_letter_or_digit b)) 0 t)) (omega arith) ∙ run_from 0 t ∙ omega arith)
 
 pub run_short : (t : Bytes) → length (run t) ≤ length t
 run_short [] = omega arith

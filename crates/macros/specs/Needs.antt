@@ -1,12 +1,9 @@
 -- Which macro of a table uses which, and what is answered on their order.
-use Rattle.std.specs.Prelude.{◌≡◌, ℕ, ◌<◌, ◌&&◌, ◌||◌, List, [], length, Ok, Err, vec_items, Result, Vec, ◌==◌, nat_lt, slice_index, slice_index_or}
+use Rattle.std.specs.Prelude.{◌≡◌, ℕ, ◌<◌, ◌&&◌, ◌||◌, List, [], length, Ok, Err, vec_items, Result, Vec, ◌==◌, nat_lt, slice_index_or}
 use Rattle.std.specs.declared.alloc.Global.{Global}
 use Rattle.refusal.specs.Numbers.{number}
 use Rattle.refusal.specs.declared.kinds.Failure.{Failure}
 use Rattle.refusal.specs.declared.kinds.Failure.TheVariants.{Refused, NoMemory}
-use Rattle.refusal.specs.declared.kinds.Refusal.TheVariants.{MacroCircle}
-use Rattle.graph.specs.declared.OrderFault.{OrderFault}
-use Rattle.graph.specs.declared.OrderFault.TheVariants.{Circle, Memory}
 use Rattle.links.specs.declared.arcs.Links.{Links}
 use Rattle.links.specs.Linked.{nodes, linked}
 use Rattle.graph.specs.Needs.{Orders}
@@ -19,11 +16,6 @@ use Rattle.verdict.specs.Verdict.{Read, read, refuse, refuse_first, macro_needs}
 abbrev pub UsesAdded : Links → ℕ → Table → Bytes → ℕ → Links → Type 0
 UsesAdded g from t text k g' =
     (x y : ℕ) → x < nodes g → y < nodes g → linked g' x y ≡ (linked g x y || (x == from && (nat_lt y k && uses_macro (slice_index_or t y ([], [])).0 text)))
-
--- a circle is refused at the place of its least macro
-abbrev pub failure_of : List ℕ → OrderFault → Failure
-failure_of ps (Circle a) = Refused (record { refusal = MacroCircle; place = slice_index ps a })
-failure_of ps Memory = NoMemory
 
 -- 19 at the place of the least macro on a circle
 abbrev pub circle_told : Table → List ℕ → Read (Unit {0})

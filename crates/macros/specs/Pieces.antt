@@ -1,5 +1,6 @@
 -- The pieces of a text as they are handed out.
-use Rattle.std.specs.Prelude.{◌≡◌, List, [], ◌∷◌, Some, None, Option}
+use Rattle.std.specs.Prelude.{Bool, false, List}
+use Rattle.scan.specs.Names.{Bytes, same}
 use Rattle.verdict.specs.Macros.{Piece, plain, macro, pieces}
 use Rattle.macros.specs.declared.pieces.TextPiece.{TextPiece}
 use Rattle.macros.specs.declared.pieces.TextPiece.TheVariants.{Plain, Use}
@@ -14,7 +15,7 @@ meant (Use name) = macro name.now
 abbrev pub remaining : TextPieces → List Piece
 remaining s = pieces s.rest.now
 
--- the first of the remaining pieces is handed out, if there is one
-abbrev pub Hands : TextPieces → Option TextPiece → TextPieces → Type 0
-Hands before None after = (remaining before ≡ []) × (remaining after ≡ [])
-Hands before (Some piece) after = remaining before ≡ meant piece ∷ remaining after
+-- is this piece a use of the name?
+abbrev pub is_use_of : Bytes → Piece → Bool
+is_use_of n (plain b) = false
+is_use_of n (macro m) = same m n

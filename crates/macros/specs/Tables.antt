@@ -3,7 +3,6 @@ use Rattle.std.specs.Prelude.{◌≡◌, ℕ, Bool, false, cond, not, List, [], 
 use Rattle.refusal.specs.Numbers.{number}
 use Rattle.refusal.specs.declared.kinds.Failure.{Failure}
 use Rattle.refusal.specs.declared.kinds.Failure.TheVariants.{Refused, NoMemory}
-use Rattle.refusal.specs.declared.kinds.Fault.{Fault}
 use Rattle.scan.specs.Names.{Bytes, among}
 use Rattle.verdict.specs.Circuit.{sorted}
 use Rattle.verdict.specs.Macros.{Table, names_of, finished, field, all_known}
@@ -24,11 +23,6 @@ Distinct (n ∷ ns) = (among ns n ≡ false) × Distinct ns
 -- the entries at these places
 abbrev pub picked : Table → List ℕ → Table
 picked t is = map (λ i. slice_index_or t i ([], [])) is
-
--- an answer as a judgement
-abbrev pub told : Result Unit Fault → Read (Unit {0})
-told (Ok u) = read tt
-told (Err f) = refuse (number f.refusal) f.place
 
 -- for each macro of the table: does it use an unknown one?
 abbrev pub unknowns : Table → List Bool

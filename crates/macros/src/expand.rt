@@ -22,7 +22,7 @@ fn put(out: &mut Vec<u8>, byte: u8, place: usize) -> Result<(), Failure>
     ensures { Wrote place out.old.items out.new.items (byte ∷ []) result }
 {
     if out.len() >= LONGEST {
-        return Err(Failure::Refused(Refusal::OverLimit.at(place)));
+        return Err(Refusal::OverLimit.at(place).into());
     }
     out.push(byte)?;
     Ok(())
@@ -67,13 +67,10 @@ fn expand_use(
     requires short { vec_len out.old ≤ 1023 }
     ensures { Wrote place out.old.items out.new.items (text_of (full below (entries table.now)) used.now) result }
 {
-    match macro_of(table, used) {
-        Some(at) => {
-            let one = table[at];
-            expand_text(table, at, one.text, place, out)
-        }
-        None => unreachable(),
-    }
+    let Some(at) = macro_of(table, used) else {
+        unreachable()
+    };
+    expand_text(table, at, table[at].text, place, out)
 }
 
 impl Macros<'_> {
@@ -86,7 +83,7 @@ impl Macros<'_> {
         let table = self.table.as_slice();
         out.clear();
         if !all_known(table, word.text) {
-            return Err(Failure::Refused(Refusal::UnknownMacro.at(word.place)));
+            return Err(Refusal::UnknownMacro.at(word.place).into());
         }
         expand_text(table, table.len(), word.text, word.place, out)
     }

@@ -1,13 +1,13 @@
 //! Which macro uses which, and an order in which each comes after those that it uses.
-ghost use Rattle.std.specs.Prelude.{◌≡◌, ℕ, ◌<◌, ◌≤◌, min, length, slice_index};
+ghost use Rattle.std.specs.Prelude.{◌≡◌, ℕ, ◌<◌, ◌≤◌, min, length};
 ghost use Rattle.links.specs.Linked.{nodes, linked};
 ghost use Rattle.verdict.specs.Verdict.{macro_needs};
-ghost use Rattle.macros.specs.Needs.{UsesAdded, failure_of, OrderTold};
+ghost use Rattle.macros.specs.Needs.{UsesAdded, OrderTold};
 ghost use Rattle.macros.specs.Uses.{entries, places_of};
 
 use crate::uses::{Macro, uses_macro};
-use graph::OrderFault;
 use links::arcs::Links;
+use names::ordered;
 use refusal::kinds::{Failure, Refusal};
 use std::alloc::Global;
 
@@ -16,8 +16,7 @@ fn link_uses(links: &mut Links, table: &[Macro<'_>], from: usize, text: &[u8])
     ensures nodes { nodes links.new ≡ nodes links.old }
     ensures arcs { UsesAdded links.old from (entries table.now) text.now (length table.now) links.new }
 {
-    for to in 0..table.len() {
-        let one = table[to];
+    for (to, one) in table.iter().enumerate() {
         if uses_macro(text, one.name) {
             links.add(from, to);
         }
@@ -30,34 +29,10 @@ fn links_of(table: &[Macro<'_>]) -> Links
     ensures arcs { (x y : ℕ) → x < nodes result → y < nodes result → linked result x y ≡ macro_needs (entries table.now) x y }
 {
     let mut links = Links::new(table.len());
-    for from in 0..table.len() {
-        let one = table[from];
+    for (from, one) in table.iter().enumerate() {
         link_uses(&mut links, table, from, one.text);
     }
     links
-}
-
-/// The place of a macro of the table, and 0 past its end.
-fn place_of(table: &[Macro<'_>], at: usize) -> usize
-    ensures { result ≡ slice_index (places_of table.now) at }
-{
-    if at < table.len() {
-        let one = table[at];
-        return one.place;
-    }
-    0
-}
-
-/// Why the macros of the table have no order: a circle is refused at its least macro.
-fn failure_of(table: &[Macro<'_>], fault: OrderFault) -> Failure
-    ensures { result ≡ failure_of (places_of table.now) fault }
-{
-    match fault {
-        OrderFault::Circle(least) => {
-            Failure::Refused(Refusal::MacroCircle.at(place_of(table, least)))
-        }
-        OrderFault::Memory => Failure::NoMemory,
-    }
 }
 
 /// An order of a table by name, in which each macro comes after those that it uses; or the least macro on a circle is refused.
@@ -65,8 +40,5 @@ pub(crate) fn order_of(heap: Global, table: &[Macro<'_>]) -> Result<Vec<usize>, 
     requires { length table.now ≤ 64 }
     ensures { OrderTold (entries table.now) (places_of table.now) result }
 {
-    match graph::order(heap, &links_of(table)) {
-        Ok(order) => Ok(order),
-        Err(fault) => Err(failure_of(table, fault)),
-    }
+    ordered(heap, &links_of(table), table, Refusal::MacroCircle)
 }

@@ -1,8 +1,8 @@
 //! The pieces of a text: bytes that stand for themselves, and uses of macros.
-ghost use Rattle.std.specs.Prelude.{◌≡◌, length};
+ghost use Rattle.std.specs.Prelude.{◌≡◌};
 ghost use Rattle.verdict.specs.Macros.{pieces};
-ghost use Rattle.macros.specs.Pieces.{remaining, Hands};
-ghost use Rattle.std.specs.Iterator.{at_most};
+ghost use Rattle.macros.specs.Pieces.{remaining, meant};
+ghost use Rattle.std.specs.Iterator.{YieldsFirstBy, item_count};
 
 use crate::uses::used_name;
 
@@ -35,23 +35,20 @@ impl<'t> TextPieces<'t> {
 impl<'t> Iterator for TextPieces<'t> {
     type Item = TextPiece<'t>;
 
-    ghost next_gives = { Hands };
+    ghost next_gives = { YieldsFirstBy meant remaining };
 
-    ghost remaining = { λ s. at_most (length (remaining s)) };
+    ghost remaining = { item_count remaining };
 
     fn next(&mut self) -> Option<TextPiece<'t>> {
-        let rest = self.rest;
-        if rest.is_empty() {
-            return None;
-        }
-        match used_name(rest) {
+        let (first, behind) = self.rest.split_first()?;
+        match used_name(self.rest) {
             Some(name) => {
-                self.rest = &rest[name.len() + 1..];
+                self.rest = &behind[name.len()..];
                 Some(TextPiece::Use(name))
             }
             None => {
-                self.rest = &rest[1..];
-                Some(TextPiece::Plain(rest[0]))
+                self.rest = behind;
+                Some(TextPiece::Plain(*first))
             }
         }
     }

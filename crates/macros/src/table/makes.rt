@@ -1,7 +1,8 @@
 //! The macros of a drawing, judged and set in order.
 ghost use Rattle.std.specs.Prelude.{◌≡◌, ℕ, ◌<◌, length, IfOk, slice_index};
 ghost use Rattle.verdict.specs.Verdict.{refuse_first};
-ghost use Rattle.macros.specs.Tables.{told, unknowns, picked, Made};
+ghost use Rattle.names.specs.Checks.{told};
+ghost use Rattle.macros.specs.Tables.{unknowns, picked, Made};
 ghost use Rattle.macros.specs.Uses.{entries, places_of};
 
 use super::Macros;
@@ -18,11 +19,8 @@ const MOST_MACROS: usize = 64;
 fn check_known(table: &[Macro<'_>]) -> Result<(), Fault>
     ensures { told result ≡ refuse_first 18 (unknowns (entries table.now)) (places_of table.now) }
 {
-    for at in 0..table.len() {
-        let one = table[at];
-        if !all_known(table, one.text) {
-            return Err(Refusal::UnknownMacro.at(one.place));
-        }
+    if let Some(one) = table.iter().find(|one| !all_known(table, one.text)) {
+        return Err(Refusal::UnknownMacro.at(one.place));
     }
     Ok(())
 }
@@ -36,11 +34,7 @@ fn arranged<'t>(
     requires { (i : ℕ) → i < length order.now → slice_index order.now i < length table.now }
     ensures { IfOk result (λ v. entries v.items ≡ picked (entries table.now) order.now) }
 {
-    let mut all = Vec::new(heap);
-    for at in order {
-        all.push(table[*at])?;
-    }
-    Ok(all)
+    order.iter().map(|at| table[*at]).collect(heap)
 }
 
 impl<'t> Macros<'t> {
@@ -49,9 +43,8 @@ impl<'t> Macros<'t> {
     pub fn new(heap: Global, defined: &[Macro<'t>]) -> Result<Macros<'t>, Failure>
         ensures { Made defined.now result }
     {
-        if defined.len() > MOST_MACROS {
-            let one = defined[MOST_MACROS];
-            return Err(Failure::Refused(Refusal::OverLimit.at(one.place)));
+        if let Some(one) = defined.get(MOST_MACROS) {
+            return Err(Refusal::OverLimit.at(one.place).into());
         }
         let by_name = sorted(heap, defined)?;
         let rows = by_name.as_slice();

@@ -1,5 +1,5 @@
 -- Each piece is put behind what is written; a use is put in by the macro's own text, which uses only macros before it.
-use Rattle.std.proofs.Common.{◌≡◌, [], ◌∷◌, length, vec_items, ap, ◌∙◌, subst, arith}
+use Rattle.std.proofs.Common.{◌≡◌, [], ◌∷◌, length, vec_items, sym, ap, ◌∙◌, subst, arith}
 use Rattle.std.proofs.lemmas.Result.{err_from_is_err_and}
 use Rattle.verdict.specs.Macros.{names_of, put_in, text_of, plain, macro}
 use Rattle.macros.specs.Filling.{Wrote}
@@ -61,7 +61,7 @@ expand_use-expand_text-requires t c =
     (omega (arith, c.requires.before), (c.requires.ordered, (text_before c.args.table.now c.args.used.now c.in-Some.at found c.requires.ordered, (omega (arith, c.requires.before, c.requires.within), c.requires.short))))
 
 pub expand_use-unreachable-requires : goal.expand_use-unreachable-requires
-expand_use-unreachable-requires t c = not_missing c.args.table.now c.args.used.now c.args.below c.in-None.ensures.first c.requires.before c.requires.within
+expand_use-unreachable-requires t c = not_missing c.args.table.now c.args.used.now c.args.below (sym c.in_default.is ∙ c.macro_of.ensures.first) c.requires.before c.requires.within
 
 pub expand_use-returns : goal.expand_use-returns
 expand_use-returns t c =

@@ -6,5 +6,5 @@ use Rattle.macros.proofs.uses.leading_name.Goals as goal
 pub slice_bounds-result-end : goal.slice_bounds-result-end
 slice_bounds-result-end c = omega (arith, run_short c.args.text.now)
 
-pub returns-then-is_letter : goal.returns-then-is_letter
-returns-then-is_letter c = leading_is c.args.text.now c.run_length.result (sym c.if-is_letter.ensures) c.run_length.ensures
+pub returns-in-len1-up : goal.returns-in-len1-up
+returns-in-len1-up c = leading_is c.args.text.now c.run_length.result (sym c.if-is_letter.ensures) c.run_length.ensures

@@ -1,19 +1,15 @@
--- A letter or digit lengthens the run by one, and any other byte ends it.
-use Rattle.std.proofs.Common.{sym, arith}
-use Rattle.macros.proofs.Runs.{run_more, run_ends, run_none}
+-- The first byte that is no letter or digit ends the run.
+use Rattle.std.proofs.Common.{◌≡◌, not, length, unwrap_or, ap, ◌∙◌, rules, tests}
+use Rattle.std.specs.List.{position}
+use Rattle.std.proofs.lemmas.Iterator.{YieldsList-from_slice}
+use Rattle.std.proofs.lemmas.Iterator.Search.{position_from_yields_List}
+use Rattle.scan.specs.Names.{is_letter_or_digit}
+use Rattle.macros.proofs.Runs.{run_measured}
 use Rattle.macros.proofs.uses.run_length.Goals as goal
-
-pub returns-then-not-is_letter_or_digit : goal.returns-then-not-is_letter_or_digit
-returns-then-not-is_letter_or_digit c =
-    let ends = run_ends c.args.text.now c.loop-i.i c.loop-i-test.true (sym c.if-not-is_letter_or_digit.ensures) in
-    omega (arith, c.loop-i.invariant)
-
-pub loop-i-preserved : goal.loop-i-preserved
-loop-i-preserved c =
-    let more = run_more c.args.text.now c.loop-i.i c.loop-i-test.true (sym c.if-not-is_letter_or_digit.ensures) in
-    omega (arith, c.loop-i.invariant)
 
 pub returns : goal.returns
 returns c =
-    let none = run_none c.args.text.now c.loop-i.i c.loop-i-test.false in
-    omega (arith, c.loop-i.invariant)
+    let text = c.args.text.now in
+    let end : c.position-end.result ≡ position (λ b. not (is_letter_or_digit b)) text =
+    position_from_yields_List (λ b. not (is_letter_or_digit b)) _ _ c.position-end.result c.position-end.ensures.ran (YieldsList-from_slice text (cc)) (λ x b q k. search (rules, tests)) in
+    c.unwrap_or.ensures ∙ (ap (λ o. unwrap_or o (length text)) end ∙ run_measured text)

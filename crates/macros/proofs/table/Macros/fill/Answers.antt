@@ -1,5 +1,5 @@
 -- The table is in order and the uses are known, so all of them are put in.
-use Rattle.std.proofs.Common.{◌≡◌, true, false, [], length, vec_items, sym, ap, ◌∙◌, subst, arith}
+use Rattle.std.proofs.Common.{◌≡◌, true, false, [], length, Err, vec_items, sym, ap, ◌∙◌, subst, arith}
 use lib.ListN.{length-map}
 use Rattle.refusal.specs.Numbers.{number}
 use Rattle.numbers.specs.Judged.{bad}
@@ -17,7 +17,7 @@ returns-then-not-all_known c =
     let unknown : all_known (names_of (entries (vec_items c.args.self.now.table))) c.args.word.text.now ≡ false =
     ap (λ ms. all_known (names_of (entries ms)) c.args.word.text.now) (sym value) ∙ sym c.if-not-all_known.ensures in
     record {
-      filled = (
+      filled = subst (λ f. Filled c.args.word.place (field (finished (entries (vec_items c.args.self.now.table))) c.args.word.text.now) (vec_items c.clear.new.self) (Err f)) (sym c.into.ensures) (
         unknown_field (entries (vec_items c.args.self.now.table)) c.args.word.text.now unknown ∙ ap (λ f. bad (number f.refusal)) (sym c.at.ensures),
         ap (λ f. f.place) c.at.ensures,
       );

@@ -1,11 +1,23 @@
--- Each push adds the macro at the next place of the order.
-use Rattle.std.proofs.Common.{vec_items}
-use Rattle.macros.proofs.Picking.{pick_more, pick_all}
+-- The chain gives the macros at the places of the order.
+use Rattle.std.proofs.Common.{◌<◌, [], length, get_or, arith, rules, tests}
+use Rattle.std.proofs.lemmas.List.{get_or_read}
+use Rattle.std.proofs.lemmas.Iterator.{YieldsList-from_slice, YieldsList-from_map_by}
+use Rattle.std.proofs.lemmas.Iterator.Adapters.{serves_from_places}
+use Rattle.std.proofs.lemmas.Iterator.Consumers.{map_from_collect}
+use Rattle.macros.specs.Uses.{entry, entries}
+use Rattle.macros.proofs.Entries.{entry_at}
 use Rattle.macros.proofs.table.makes.arranged.Goals as goal
 
-pub loop-at-preserved : goal.loop-at-preserved
-loop-at-preserved c =
-    pick_more c.args.table.now (vec_items c.loop-at.all) c.args.order.now c.loop-at.at-index c.loop-at.invariant (vec_items c.push.new.self) c.loop-at-test.true c.in_ok-push.ensures.items
+pub collect-requires-clause-can : goal.collect-requires-clause-can
+collect-requires-clause-can c = (
+  tt,
+  serves_from_places (YieldsList-from_slice c.args.order.now (cc)) (λ x q k. search (rules, tests)) (λ x k l e.
+      let within : x.now < length c.args.table.now = omega (arith, c.requires k l, get_or_read c.args.order.now k x.now l e 0) in
+      search rules),
+)
 
 pub returns : goal.returns
-returns c = pick_all c.args.table.now (vec_items c.loop-at.all) c.args.order.now c.loop-at.at-index c.loop-at.invariant c.loop-at-test.false
+returns c =
+    let table = c.args.table.now in
+    map_from_collect c.collect.result c.collect.ensures.ran (YieldsList-from_map_by _ entry (λ i. get_or (entries table) i ([], [])) (YieldsList-from_slice c.args.order.now (cc)) c.map.ensures.closure
+    (λ x r q k. (search (rules, tests), search (rules, tests, entry_at))))
