@@ -8,6 +8,7 @@ ghost use Rattle.device.specs.Stands.{Stands};
 ghost use Rattle.device.specs.Layered.{LayersStand};
 ghost use Rattle.device.specs.Alike.{StayAlike};
 
+pub mod row;
 pub mod shift;
 pub mod split;
 pub mod taken;
@@ -41,22 +42,16 @@ pub trait Device {
 }
 
 /// Giving and taking alter what they are said to alter, and nothing else.
-pub fn changes_stand() -> u8
+pub fn changes_stand()
     ensures { Stands }
-{
-    0
-}
+{}
 
 /// Shift and split send each port to the device that is to serve it, and alter no other.
-pub fn layers_stand() -> u8
+pub fn layers_stand()
     ensures { LayersStand }
-{
-    0
-}
+{}
 
 /// Devices of equal meaning answer alike and stay of equal meaning, by themselves and under shift and split.
-pub fn alike_stand() -> u8
+pub fn alike_stand()
     ensures { StayAlike }
-{
-    0
-}
+{}

@@ -7,7 +7,7 @@ use refusal::kinds::{Fault, Refusal};
 use word::value::Word;
 
 /// Port p is port p - `by` of the device below, and the ports under `by` are unserved.
-#[derive(Drop)]
+#[derive(Debug, PartialEq, Eq, Drop)]
 pub struct Shift<D> {
     pub by: u32,
     pub below: D,
@@ -27,34 +27,24 @@ impl<D: Device> Device for Shift<D> {
     ghost meaning = { λ s. shifted s.by (D.Device.meaning s.below) };
 
     fn waiting(&self, port: u32) -> u32 {
-        if port < self.by {
-            0
-        } else {
-            self.below.waiting(port - self.by)
-        }
+        port.checked_sub(self.by)
+            .map_or(0, |below| self.below.waiting(below))
     }
 
     fn space(&self, port: u32) -> u32 {
-        if port < self.by {
-            0
-        } else {
-            self.below.space(port - self.by)
-        }
+        port.checked_sub(self.by)
+            .map_or(0, |below| self.below.space(below))
     }
 
     fn give(&mut self, port: u32) -> Result<Word, Fault> {
-        if port < self.by {
-            Err(Refusal::NothingWaits.at(0))
-        } else {
-            self.below.give(port - self.by)
-        }
+        let below = port
+            .checked_sub(self.by)
+            .ok_or(Refusal::NothingWaits.at(0))?;
+        self.below.give(below)
     }
 
     fn take(&mut self, port: u32, word: Word) -> Result<(), Fault> {
-        if port < self.by {
-            Err(Refusal::NoSpace.at(0))
-        } else {
-            self.below.take(port - self.by, word)
-        }
+        let below = port.checked_sub(self.by).ok_or(Refusal::NoSpace.at(0))?;
+        self.below.take(below, word)
     }
 }

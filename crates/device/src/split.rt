@@ -7,7 +7,7 @@ use refusal::kinds::Fault;
 use word::value::Word;
 
 /// The ports under `at` are those of `low`, and the others those of `high`.
-#[derive(Drop)]
+#[derive(Debug, PartialEq, Eq, Drop)]
 pub struct Split<D, E> {
     pub at: u32,
     pub low: D,

@@ -1,15 +1,11 @@
 //! The words that a port has taken, in storage.
-ghost use Rattle.std.specs.Prelude.{◌≡◌, ◌≤◌, length};
-
 pub mod keeps;
 
+use arrayvec::ArrayVec;
 use word::value::Word;
 
 /// The words that a port has taken, of which there are at most `N`.
-#[derive(Clone, Copy)]
+#[derive(Clone, Debug, PartialEq, Eq, Drop)]
 pub struct Taken<const N: usize> {
-    words: [Word; N],
-    count: usize,
-    ghost long: { length words ≡ N },
-    ghost within: { count ≤ N },
+    words: ArrayVec<Word, N>,
 }

@@ -5,6 +5,7 @@ ghost use Rattle.device.specs.Answers.{admitted};
 ghost use Rattle.device.specs.Kept.{values, kept, room};
 
 use crate::taken::Taken;
+use arrayvec::ArrayVec;
 use refusal::kinds::{Fault, Refusal};
 use word::value::Word;
 
@@ -15,8 +16,7 @@ impl<const N: usize> Taken<N> {
         ensures space { room N result ≡ N }
     {
         Taken {
-            words: [Word { value: 0 }; N],
-            count: 0,
+            words: ArrayVec::new(),
         }
     }
 
@@ -24,15 +24,14 @@ impl<const N: usize> Taken<N> {
     pub fn space(&self) -> usize
         ensures { result ≡ room N self.now }
     {
-        N - self.count
+        self.words.remaining_capacity()
     }
 
     /// The words, the last taken last.
     pub fn words(&self) -> &[Word]
         ensures { values result.now ≡ kept N self.now }
     {
-        let all = &self.words[..];
-        &all[0..self.count]
+        self.words.as_slice()
     }
 
     /// Adds `word` at the end. It is refused where there is no space.
@@ -41,11 +40,8 @@ impl<const N: usize> Taken<N> {
         ensures words { kept N self.new ≡ one_more (kept N self.old) word.value (room N self.old) }
         ensures space { room N self.new ≡ one_less (room N self.old) }
     {
-        if self.count == N {
-            return Err(Refusal::NoSpace.at(0));
-        }
-        self.words[self.count] = word;
-        self.count += 1;
-        Ok(())
+        self.words
+            .try_push(word)
+            .map_err(|_| Refusal::NoSpace.at(0))
     }
 }

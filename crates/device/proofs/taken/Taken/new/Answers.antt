@@ -1,7 +1,0 @@
--- An array of N words has the length N.
-use lib.ListN.{length-replicate}
-use Rattle.std.proofs.Common.{rules}
-use Rattle.device.proofs.taken.Taken.new.Goals as goal
-
-pub invariant_of-result-2 : goal.invariant_of-result-2
-invariant_of-result-2 g c = record { long = length-replicate _ _; within = search rules }
