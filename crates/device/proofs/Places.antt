@@ -1,8 +1,8 @@
 -- A row of ports place by place: reading a list under its length, past it, and after a write at one place.
-use Rattle.std.proofs.Common.{◌≡◌, ℕ, ◌<◌, ◌≤◌, eqb, List, map, length, get_or, set, sym, refl, ap, ◌∙◌, inl, inr}
+use Rattle.std.proofs.Common.{◌≡◌, ℕ, ◌<◌, ◌≤◌, cond, eqb, ltb, List, [], ◌∷◌, map, length, get_or, set, sym, refl, ap, ◌∙◌, inl, inr, arith}
 use mathlib.Core.Path.{fun_ext}
 use Rattle.std.proofs.lemmas.List.{get_or-map, get_or_past, length-map, map-set, get_or-set_same, get_or-set_other}
-use Rattle.std.proofs.lemmas.Bool.{cases_eq, eq-eqb, ne_eqb, cond-true, cond-false}
+use Rattle.std.proofs.lemmas.Bool.{cases_eq, cases_lt, eq-eqb, ne_eqb, lt-ltb, le-ltb, cond-true, cond-false}
 use Rattle.device.specs.Meaning.{Port, unserved, at_port}
 use Rattle.device.specs.Rows.{row}
 
@@ -34,3 +34,15 @@ row_unset f xs p g h e = fun_ext (λ q. elim (cases_eq q p) [
   | inl k ↦ rw k (row_past f xs p h ∙ sym (cond-true (eqb p p) (g (row f xs p)) (row f xs p) (eq-eqb p p refl) ∙ ap g (row_past f xs p h) ∙ e))
   | inr n ↦ sym (cond-false (eqb q p) (g (row f xs q)) (row f xs q) (ne_eqb q p n))
 ])
+
+-- a row of n ports that each mean what g says
+pub row_each : {X : Type 0} → (f : X → Port) (g : ℕ → Port) (n : ℕ) (xs : List X) → length xs ≡ n → ((k : ℕ) (d : X) → k < n → f (get_or xs k d) ≡ g k)
+    → row f xs ≡ (λ p. cond (ltb p n) (g p) unserved)
+row_each {X} f g n xs e h = fun_ext (λ p. elim (cases_lt p n) [
+  | inl l ↦ at xs p (omega arith) (λ d. h p d l) ∙ sym (cond-true _ _ _ (lt-ltb p n l))
+  | inr l ↦ row_past f xs p (omega arith) ∙ sym (cond-false _ _ _ (le-ltb p n l))
+])
+  where
+    at : (xs : List X) (p : ℕ) → p < length xs → ((d : X) → f (get_or xs p d) ≡ g p) → row f xs p ≡ g p
+    at [] p l h = absurd (omega arith)
+    at (x ∷ xs) p l h = row_at f (x ∷ xs) p x l ∙ h x

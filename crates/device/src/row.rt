@@ -1,6 +1,6 @@
 //! A row of ports as a device.
 ghost use Rattle.std.specs.Prelude.{◌≡◌, length};
-ghost use Rattle.device.specs.Meaning.{Port as Meant, given_port, taken_port};
+ghost use Rattle.device.specs.Meaning.{Port as Meant, given_port, taken_port, gave, took};
 ghost use Rattle.device.specs.Answers.{offered, admitted, valued};
 ghost use Rattle.device.specs.Rows.{row};
 
@@ -44,7 +44,11 @@ impl<P: Port, const N: usize> Device for [P; N] {
         self.as_slice().get(port as usize).map_or(0, P::space)
     }
 
-    fn give(&mut self, port: u32) -> Result<Word, Fault> {
+    fn give(&mut self, port: u32) -> Result<Word, Fault>
+        ensures answer { valued result ≡ offered (row P.Port.meaning self.old port).waiting }
+        ensures after { row P.Port.meaning self.new ≡ gave (row P.Port.meaning self.old) port }
+        ensures long { length self.new ≡ N }
+    {
         let place = port as usize;
         if place < self.len() {
             self[place].give()
@@ -53,7 +57,11 @@ impl<P: Port, const N: usize> Device for [P; N] {
         }
     }
 
-    fn take(&mut self, port: u32, word: Word) -> Result<(), Fault> {
+    fn take(&mut self, port: u32, word: Word) -> Result<(), Fault>
+        ensures answer { result ≡ admitted (row P.Port.meaning self.old port).space }
+        ensures after { row P.Port.meaning self.new ≡ took (row P.Port.meaning self.old) port word.value }
+        ensures long { length self.new ≡ N }
+    {
         let place = port as usize;
         if place < self.len() {
             self[place].take(word)

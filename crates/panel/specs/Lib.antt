@@ -1,4 +1,3 @@
-pub mod Rings
 pub mod Meant
 pub mod Pressing
 pub mod Stands

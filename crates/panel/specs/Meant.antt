@@ -1,14 +1,13 @@
 -- What a panel means.
 use Rattle.std.specs.Prelude.{cond, [], nat_lt}
 use Rattle.device.specs.Meaning.{Port, Meaning, unserved}
-use Rattle.device.specs.Kept.{kept, room}
+use Rattle.device.specs.Kept.{values, kept, room}
 use Rattle.device.specs.Rows.{row}
-use Rattle.panel.specs.Rings.{ring_words}
 use Rattle.panel.specs.declared.port.PanelPort.{PanelPort}
 use Rattle.panel.specs.declared.Panel.{Panel}
 
 abbrev pub port_meaning : PanelPort → Port
-port_meaning p = record { waiting = ring_words p.pressed; taken = kept 8 p.taken; space = room 8 p.taken }
+port_meaning p = record { waiting = values p.pressed.items; taken = kept 8 p.taken; space = room 8 p.taken }
 
 abbrev pub panel_meaning : Panel → Meaning
 panel_meaning s = row port_meaning s.ports

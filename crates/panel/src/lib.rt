@@ -5,13 +5,12 @@ ghost use Rattle.std.specs.Prelude.{◌≡◌, length};
 
 mod port;
 pub mod pressing;
-mod ring;
 pub mod serving;
 
 use port::PanelPort;
 
 /// The ports 0 to 7. Each holds at most eight words that wait, and has space for eight at the start.
-#[derive(Drop)]
+#[derive(Debug, PartialEq, Eq, Drop)]
 pub struct Panel {
     ports: [PanelPort; 8],
     ghost wide: { length ports ≡ 8 },

@@ -7,9 +7,8 @@ ghost use Rattle.panel.specs.Stands.{PanelStands};
 
 use crate::Panel;
 use crate::port::PanelPort;
-use crate::ring::Ring;
-use device::taken::Taken;
 use refusal::kinds::{Fault, Refusal};
+use std::array;
 use word::value::Word;
 
 impl Panel {
@@ -17,22 +16,19 @@ impl Panel {
     pub fn new() -> Panel
         ensures { panel_meaning result ≡ fresh_panel }
     {
-        let port = PanelPort {
-            pressed: Ring::new(),
-            taken: Taken::new(),
-        };
-        Panel { ports: [port; 8] }
+        Panel {
+            ports: array::from_fn(|_| PanelPort::new()),
+        }
     }
 
     /// The words that `port` has taken, the last of them last.
     pub fn taken(&self, port: u32) -> &[Word]
         ensures { values result.now ≡ (panel_meaning self.now port).taken }
     {
-        if port < 8 {
-            self.ports[port as usize].taken.words()
-        } else {
-            &[]
-        }
+        self.ports
+            .as_slice()
+            .get(port as usize)
+            .map_or(&[], PanelPort::taken)
     }
 
     /// Lets `word` wait at `port`, behind the words that wait there. It is refused where the number is no word,
@@ -41,22 +37,17 @@ impl Panel {
         ensures answer { result ≡ press_answer (panel_meaning self.old) port word }
         ensures after { panel_meaning self.new ≡ pressed (panel_meaning self.old) port word }
     {
-        if word >= 0x8000_0000 {
-            return Err(Refusal::WordTooHigh.at(0));
+        let word = Word::new(word).ok_or(Refusal::WordTooHigh.at(0))?;
+        let place = port as usize;
+        if place < self.ports.len() {
+            self.ports[place].press(word)
+        } else {
+            Err(Refusal::NoPress.at(0))
         }
-        if port >= 8 {
-            return Err(Refusal::NoPress.at(0));
-        }
-        let mut at = self.ports[port as usize];
-        let answer = at.pressed.press(Word { value: word });
-        self.ports[port as usize] = at;
-        answer
     }
 }
 
 /// The panel serves the ports 0 to 7 alone, and a pressing does what is said of it.
-pub fn panel_stands() -> u8
+pub fn panel_stands()
     ensures { PanelStands }
-{
-    0
-}
+{}
