@@ -3,8 +3,10 @@ ghost use Rattle.std.specs.Prelude.{◌≡◌, length};
 ghost use Rattle.device.specs.Meaning.{Port as Meant, given_port, taken_port, gave, took};
 ghost use Rattle.device.specs.Answers.{offered, admitted, valued};
 ghost use Rattle.device.specs.Rows.{row};
+ghost use Rattle.arrayvec.specs.ArrayVec.{array_vec_len};
 
 use crate::Device;
+use arrayvec::ArrayVec;
 use refusal::kinds::{Fault, Refusal};
 use word::value::Word;
 
@@ -33,8 +35,8 @@ pub trait Port {
 }
 
 /// Each port stands at its place, and past the end the ports are unserved.
-impl<P: Port, const N: usize> Device for [P; N] {
-    ghost meaning = { row P.Port.meaning };
+impl<P: Port, const N: usize> Device for ArrayVec<P, N> {
+    ghost meaning = { λ ports. row P.Port.meaning ports.items };
 
     fn waiting(&self, port: u32) -> u32 {
         self.as_slice().get(port as usize).map_or(0, P::waiting)
@@ -45,28 +47,24 @@ impl<P: Port, const N: usize> Device for [P; N] {
     }
 
     fn give(&mut self, port: u32) -> Result<Word, Fault>
-        ensures answer { valued result ≡ offered (row P.Port.meaning self.old port).waiting }
-        ensures after { row P.Port.meaning self.new ≡ gave (row P.Port.meaning self.old) port }
-        ensures long { length self.new ≡ N }
+        ensures answer { valued result ≡ offered (row P.Port.meaning self.old.items port).waiting }
+        ensures after { row P.Port.meaning self.new.items ≡ gave (row P.Port.meaning self.old.items) port }
+        ensures long { array_vec_len self.new ≡ array_vec_len self.old }
     {
-        let place = port as usize;
-        if place < self.len() {
-            self[place].give()
-        } else {
-            Err(Refusal::NothingWaits.at(0))
+        match self.get_mut(port as usize) {
+            Some(at) => at.give(),
+            None => Err(Refusal::NothingWaits.at(0)),
         }
     }
 
     fn take(&mut self, port: u32, word: Word) -> Result<(), Fault>
-        ensures answer { result ≡ admitted (row P.Port.meaning self.old port).space }
-        ensures after { row P.Port.meaning self.new ≡ took (row P.Port.meaning self.old) port word.value }
-        ensures long { length self.new ≡ N }
+        ensures answer { result ≡ admitted (row P.Port.meaning self.old.items port).space }
+        ensures after { row P.Port.meaning self.new.items ≡ took (row P.Port.meaning self.old.items) port word.value }
+        ensures long { array_vec_len self.new ≡ array_vec_len self.old }
     {
-        let place = port as usize;
-        if place < self.len() {
-            self[place].take(word)
-        } else {
-            Err(Refusal::NoSpace.at(0))
+        match self.get_mut(port as usize) {
+            Some(at) => at.take(word),
+            None => Err(Refusal::NoSpace.at(0)),
         }
     }
 }

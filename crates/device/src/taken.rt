@@ -39,6 +39,15 @@ impl<const N: usize> Taken<N> {
         self.words.as_slice()
     }
 
+    /// The same words once more.
+    pub fn copied(&self) -> Taken<N>
+        ensures { result ≡ self.now }
+    {
+        Taken {
+            words: ArrayVec::try_from(&self.words[..]).unwrap_or_default(),
+        }
+    }
+
     /// Adds `word` at the end. It is refused where there is no space.
     pub fn push(&mut self, word: Word) -> Result<(), Fault>
         ensures answer { result ≡ admitted (room N self.old) }

@@ -10,7 +10,7 @@ abbrev pub port_meaning : PanelPort → Port
 port_meaning p = record { waiting = values p.pressed.items; taken = kept 8 p.taken; space = room 8 p.taken }
 
 abbrev pub panel_meaning : Panel → Meaning
-panel_meaning s = row port_meaning s.ports
+panel_meaning s = row port_meaning s.ports.items
 
 -- a port at the start
 abbrev pub fresh : Port

@@ -1,17 +1,19 @@
 //! The panel: a device of eight ports, at which words come to wait by pressing.
 #![tactic(auto)]
 
-ghost use Rattle.std.specs.Prelude.{◌≡◌, length};
+ghost use Rattle.std.specs.Prelude.{◌≡◌};
+ghost use Rattle.arrayvec.specs.ArrayVec.{array_vec_len};
 
 mod port;
 pub mod pressing;
 pub mod serving;
 
+use arrayvec::ArrayVec;
 use port::PanelPort;
 
 /// The ports 0 to 7. Each holds at most eight words that wait, and has space for eight at the start.
 #[derive(Debug, PartialEq, Eq, Drop)]
 pub struct Panel {
-    ports: [PanelPort; 8],
-    ghost wide: { length ports ≡ 8 },
+    ports: ArrayVec<PanelPort, 8>,
+    ghost wide: { array_vec_len ports ≡ 8 },
 }

@@ -7,6 +7,7 @@ ghost use Rattle.panel.specs.Stands.{PanelStands};
 
 use crate::Panel;
 use crate::port::PanelPort;
+use arrayvec::ArrayVec;
 use refusal::kinds::{Fault, Refusal};
 use std::array;
 use word::value::Word;
@@ -17,7 +18,7 @@ impl Panel {
         ensures { panel_meaning result ≡ fresh_panel }
     {
         Panel {
-            ports: array::from_fn(|_| PanelPort::new()),
+            ports: ArrayVec::from(array::from_fn(|_| PanelPort::new())),
         }
     }
 
@@ -38,11 +39,9 @@ impl Panel {
         ensures after { panel_meaning self.new ≡ pressed (panel_meaning self.old) port word }
     {
         let word = Word::new(word).ok_or(Refusal::WordTooHigh.at(0))?;
-        let place = port as usize;
-        if place < self.ports.len() {
-            self.ports[place].press(word)
-        } else {
-            Err(Refusal::NoPress.at(0))
+        match self.ports.get_mut(port as usize) {
+            Some(at) => at.press(word),
+            None => Err(Refusal::NoPress.at(0)),
         }
     }
 }

@@ -1,6 +1,6 @@
 pub mod Resuming
 pub mod Bounds
-pub mod Counts
+pub mod Made
 pub mod Steps
 pub mod Verdicts
 pub mod Ranges

@@ -1,9 +1,8 @@
 -- One pair: where both numbers are good the later pairs decide, and otherwise the first that is not; and a pair for a port
 -- stands before the later ones for it.
 use Rattle.std.proofs.Common.{◌≡◌, ℕ, List, [], ◌∷◌, ◌++◌, drop, Some, None, Ok, Err, refl}
-use Rattle.refusal.specs.declared.kinds.Fault.{Fault}
 use Rattle.scan.specs.Words.{Word}
-use Rattle.sheet.specs.Sheets.{◌>>=◌, number_of, first_of, pairs}
+use Rattle.sheet.specs.Sheets.{number_of, pairs}
 use Rattle.sheet.specs.Waiting.{sent, waiting_at}
 use Rattle.sheet.specs.Stands.{Says}
 use Rattle.std.specs.Option.{option_to_list}
@@ -11,20 +10,8 @@ use Rattle.std.proofs.lemmas.Bool.{eq-eqb, ne_eqb}
 use Rattle.numbers.specs.Judged.{Judged, good, bad}
 use Rattle.numbers.specs.Numbers.{number}
 
--- the pairs are judged by the first number, the second and the others
-pairs_step : (end : ℕ) (a : Word) (ws : List Word)
-    → pairs end (a ∷ ws) ≡ (number_of 15 a >>= (λ _. first_of end 2147483647 ws >>= (λ _. pairs end (drop 1 ws))))
-pairs_step end a [] = refl
-pairs_step end a (b ∷ ws) = refl
-
-pub both_good : (end n m : ℕ) (a : Word) (ws : List Word) → Ok n ≡ number_of 15 a → Ok m ≡ first_of end 2147483647 ws → pairs end (a ∷ ws) ≡ pairs end (drop 1 ws)
-both_good end n m a ws e d = rw (pairs_step end a ws, ← e, ← d)
-
-pub first_bad : (end : ℕ) (f : Fault) (a : Word) (ws : List Word) → Err f ≡ number_of 15 a → Err f ≡ pairs end (a ∷ ws)
-first_bad end f a ws e = rw (pairs_step end a ws, ← e)
-
-pub second_bad : (end n : ℕ) (f : Fault) (a : Word) (ws : List Word) → Ok n ≡ number_of 15 a → Err f ≡ first_of end 2147483647 ws → Err f ≡ pairs end (a ∷ ws)
-second_bad end n f a ws e d = rw (pairs_step end a ws, ← e, ← d)
+pub both_good : (end n m : ℕ) (a b : Word) (ws : List Word) → Ok n ≡ number_of 15 a → Ok m ≡ number_of 2147483647 b → pairs end (a ∷ b ∷ ws) ≡ pairs end ws
+both_good end n m a b ws e d = rw (← e, ← d)
 
 -- two words read are a pair
 pub sent_here : (p v : ℕ) (a b : Word) (all behind rest : List Word) → all ≡ a ∷ behind → behind ≡ b ∷ rest

@@ -8,7 +8,7 @@ use Rattle.sheet.specs.Slots.{slot_meaning, fresh}
 use Rattle.sheet.specs.declared.Sheet.{Sheet}
 
 abbrev pub sheet_meaning : Sheet → Meaning
-sheet_meaning s = row (slot_meaning s.text.now) s.slots
+sheet_meaning s = row slot_meaning s.slots.items
 
 -- a sheet at the start, where these are the words after the count: the ports 0 to 15, and no others
 abbrev pub fresh_sheet : List Word → Meaning

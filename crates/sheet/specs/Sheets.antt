@@ -26,11 +26,6 @@ up_to most place (bad k) = bad_sheet place
 abbrev pub number_of : ℕ → Word → Result ℕ Fault
 number_of most w = up_to most w.at (number w.text)
 
--- the number that the first of these words is, in a text of `end` bytes
-abbrev pub first_of : ℕ → ℕ → List Word → Result ℕ Fault
-first_of end most [] = bad_sheet end
-first_of end most (w ∷ ws) = number_of most w
-
 -- pairs of a port, which is at most 15, and a word
 abbrev pub pairs : ℕ → List Word → Result (Unit {0}) Fault
 pairs end [] = Ok tt

@@ -1,8 +1,9 @@
 //! Judging a run sheet.
-ghost use Rattle.std.specs.Prelude.{◌≡◌, length, drop};
+ghost use Rattle.std.specs.Prelude.{◌≡◌, length};
 ghost use Rattle.scan.specs.Reading.{left, reader_text, word_of};
 ghost use Rattle.device.specs.Answers.{valued};
-ghost use Rattle.sheet.specs.Sheets.{number_of, first_of, pairs};
+ghost use Rattle.sheet.specs.Sheets.{number_of, pairs};
+ghost use Rattle.sheet.specs.Nexts.{HandsOver};
 ghost use Rattle.sheet.specs.Judged.{asked, verdict};
 
 use numbers::number;
@@ -16,11 +17,8 @@ const MOST_CYCLES: u32 = 100_000;
 /// The last port.
 const LAST_PORT: u32 = 15;
 
-/// The greatest word.
-const LARGEST: u32 = 2_147_483_647;
-
 /// What a run sheet asks for.
-#[derive(Clone, Copy)]
+#[derive(Clone, Copy, Debug, PartialEq, Eq)]
 pub struct Run {
     /// How many cycles to run.
     pub cycles: u32,
@@ -28,32 +26,30 @@ pub struct Run {
     pub pairs: usize,
 }
 
+/// The next word of the sheet's text, which must be there.
+fn next_word<'t>(reader: &mut Reader<'t>) -> Result<TextWord<'t>, Fault>
+    ensures { HandsOver reader.old result reader.new }
+{
+    reader
+        .next()
+        .ok_or(Refusal::BadSheet.at(reader.text().len()))
+}
+
+/// The number that a word of the sheet is.
+fn number_in(word: TextWord<'_>) -> Result<Word, Fault>
+    ensures { valued result ≡ number_of 2147483647 (word_of word.entry) }
+{
+    number(word.text, word.place).map_err(|_| Refusal::BadSheet.at(word.place))
+}
+
 /// The number that a word of the sheet is, which must be at most `most`.
 fn limited(word: TextWord<'_>, most: u32) -> Result<Word, Fault>
     ensures { valued result ≡ number_of most (word_of word.entry) }
 {
-    match number(word.text, word.place) {
-        Ok(said) => {
-            if said.value <= most {
-                Ok(said)
-            } else {
-                Err(Refusal::BadSheet.at(word.place))
-            }
-        }
-        Err(_) => Err(Refusal::BadSheet.at(word.place)),
-    }
-}
-
-/// The next word of the sheet, which must be there and be a number of at most `most`.
-fn next_number(reader: &mut Reader<'_>, most: u32) -> Result<Word, Fault>
-    ensures value { valued result ≡ first_of (length (reader_text reader.old)) most (left reader.old) }
-    ensures whole { reader_text reader.new ≡ reader_text reader.old }
-    ensures rest { left reader.new ≡ drop 1 (left reader.old) }
-{
-    match reader.next() {
-        Some(word) => limited(word, most),
-        None => Err(Refusal::BadSheet.at(reader.text().len())),
-    }
+    number(word.text, word.place)
+        .ok()
+        .filter(|said| said.value <= most)
+        .ok_or(Refusal::BadSheet.at(word.place))
 }
 
 /// Judges all that the reader has left as pairs of port and word.
@@ -62,7 +58,7 @@ fn check_pairs(mut reader: Reader<'_>) -> Result<(), Fault>
 {
     while let Some(port) = reader.next() {
         limited(port, LAST_PORT)?;
-        next_number(&mut reader, LARGEST)?;
+        number_in(next_word(&mut reader)?)?;
     }
     Ok(())
 }
@@ -77,9 +73,7 @@ pub fn judge(text: &[u8], from: usize) -> Result<Run, Fault>
         return Err(Refusal::TextTooLong.at(0));
     }
     let mut reader = Reader::new(text, from);
-    let Some(count) = reader.next() else {
-        return Err(Refusal::BadSheet.at(text.len()));
-    };
+    let count = next_word(&mut reader)?;
     let cycles = limited(count, MOST_CYCLES)?;
     check_pairs(reader)?;
     Ok(Run {

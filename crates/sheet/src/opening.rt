@@ -2,12 +2,15 @@
 ghost use Rattle.std.specs.Prelude.{◌≡◌, ◌^◌, ◌<◌, length};
 ghost use Rattle.scan.specs.Words.{words_after};
 ghost use Rattle.device.specs.Kept.{kept};
+ghost use Rattle.sheet.specs.Slots.{slot_meaning, fresh};
 ghost use Rattle.sheet.specs.Meant.{sheet_meaning, fresh_sheet, read};
 ghost use Rattle.sheet.specs.Stands.{SheetStands};
 
 use crate::Sheet;
 use crate::slot::Slot;
+use arrayvec::ArrayVec;
 use device::taken::Taken;
+use std::array;
 
 impl<'t> Sheet<'t> {
     /// The sheet of a text that is short enough.
@@ -15,11 +18,15 @@ impl<'t> Sheet<'t> {
         requires { length text.now < 2 ^ 32 }
         ensures { sheet_meaning result ≡ fresh_sheet (words_after text.now from) }
     {
-        let mut slots = [Slot::new(text, from, 0); 16];
-        for port in 1..16 {
-            slots[port] = Slot::new(text, from, port as u32);
+        let open = |port: usize|
+            requires { (length text.now < 2 ^ 32) × (port < 16) }
+            ensures { slot_meaning result ≡ fresh (words_after text.entry.now from) port }
+        {
+            Slot::new(text, from, port as u32)
+        };
+        Sheet {
+            slots: ArrayVec::from(array::from_fn(open)),
         }
-        Sheet { text, slots }
     }
 
     /// The sheet whose pairs of port and word stand in `text` from the place `from` on. A text of 4 GiB or more, which
@@ -38,18 +45,14 @@ impl<'t> Sheet<'t> {
     pub fn taken(&self, port: u32) -> Taken<16>
         ensures { kept 16 result ≡ (sheet_meaning self.now port).taken }
     {
-        if port < 16 {
-            let slot = self.slots[port as usize];
-            slot.taken
-        } else {
-            Taken::new()
-        }
+        self.slots
+            .as_slice()
+            .get(port as usize)
+            .map_or_else(Taken::new, Slot::taken)
     }
 }
 
 /// What the verdict on a run sheet comes to, and where its words wait.
-pub fn sheet_stands() -> u8
+pub fn sheet_stands()
     ensures { SheetStands }
-{
-    0
-}
+{}

@@ -1,13 +1,17 @@
-//! One port of the sheet, in storage.
+//! One port of the sheet.
+ghost use Rattle.std.specs.Prelude.{◌≡◌, length};
+ghost use Rattle.sheet.specs.Waits.{waits};
+
+use crate::pairs::Waiting;
 use device::taken::Taken;
 
 pub(crate) mod serves;
 
-/// The port's number, the place in the sheet's text behind the words given, how many words wait, and the words taken.
-#[derive(Clone, Copy)]
-pub(crate) struct Slot {
-    port: u32,
-    from: usize,
-    pub(crate) waiting: u32,
-    pub(crate) taken: Taken<16>,
+/// The words that wait, how many they are, and the words taken.
+#[derive(Debug, Drop)]
+pub(crate) struct Slot<'t> {
+    words: Waiting<'t>,
+    waiting: u32,
+    taken: Taken<16>,
+    ghost right: { waiting ≡ length (waits words) },
 }

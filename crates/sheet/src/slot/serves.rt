@@ -1,45 +1,55 @@
-//! The start of a port of the sheet, and giving there.
+//! The start of a port of the sheet, and what it answers.
 ghost use Rattle.std.specs.Prelude.{◌≡◌, ◌^◌, ◌<◌, length};
 ghost use Rattle.scan.specs.Words.{words_after};
-ghost use Rattle.device.specs.Meaning.{given_port};
-ghost use Rattle.device.specs.Answers.{offered, valued};
-ghost use Rattle.sheet.specs.Slots.{slot_meaning, fresh, Right};
+ghost use Rattle.device.specs.Kept.{kept};
+ghost use Rattle.sheet.specs.Slots.{slot_meaning, fresh};
 
-use crate::pairs::{count, next_word};
+use crate::pairs::{Waiting, count};
 use crate::slot::Slot;
+use device::row::Port;
 use device::taken::Taken;
 use refusal::kinds::{Fault, Refusal};
 use word::value::Word;
 
-impl Slot {
+impl<'t> Slot<'t> {
     /// The port of this number, where all that the text has for it from the place `from` on waits.
-    pub(crate) fn new(text: &[u8], from: usize, port: u32) -> Slot
+    pub(crate) fn new(text: &'t [u8], from: usize, port: u32) -> Slot<'t>
         requires { length text.now < 2 ^ 32 }
-        ensures meaning { slot_meaning text.now result ≡ fresh (words_after text.now from) port }
-        ensures right { Right text.now result }
+        ensures { slot_meaning result ≡ fresh (words_after text.now from) port }
     {
         Slot {
-            port,
-            from,
+            words: Waiting::new(text, from, port),
             waiting: count(text, from, port),
             taken: Taken::new(),
         }
     }
 
-    /// Reads the first word that waits out of the text, and answers it. It is refused where none waits.
-    pub(crate) fn give(&mut self, text: &[u8]) -> Result<Word, Fault>
-        requires { Right text.now self.old }
-        ensures answer { valued result ≡ offered (slot_meaning text.now self.old).waiting }
-        ensures after { slot_meaning text.now self.new ≡ given_port (slot_meaning text.now self.old) }
-        ensures right { Right text.now self.new }
+    /// The words taken, the last of them last.
+    pub(crate) fn taken(&self) -> Taken<16>
+        ensures { kept 16 result ≡ (slot_meaning self.now).taken }
     {
-        match next_word(text, self.from, self.port) {
-            Some(found) => {
-                self.from = found.after;
-                self.waiting -= 1;
-                Ok(found.word)
-            }
-            None => Err(Refusal::NothingWaits.at(0)),
-        }
+        self.taken.copied()
+    }
+}
+
+impl<'t> Port for Slot<'t> {
+    ghost meaning = { slot_meaning };
+
+    fn waiting(&self) -> u32 {
+        self.waiting
+    }
+
+    fn space(&self) -> u32 {
+        self.taken.space() as u32
+    }
+
+    fn give(&mut self) -> Result<Word, Fault> {
+        let word = self.words.next().ok_or(Refusal::NothingWaits.at(0))?;
+        self.waiting -= 1;
+        Ok(word)
+    }
+
+    fn take(&mut self, word: Word) -> Result<(), Fault> {
+        self.taken.push(word)
     }
 }

@@ -11,21 +11,21 @@ use Rattle.sheet.proofs.judging.judge.Goals as goal
 pub returns-in_err-check_pairs : goal.returns-in_err-check_pairs
 returns-in_err-check_pairs c =
     let t = c.args.text.now in
-    let first = c.in-Some.ensures in
-    let rest = left c.next.new.self in
-    let text : reader_text c.next.new.self ≡ t = first.whole ∙ c.new-reader.ensures.whole in
+    let first = c.in_ok-count.ensures in
+    let rest = left c.next_word.new.reader in
+    let text : reader_text c.next_word.new.reader ≡ t = first.whole ∙ c.new-reader.ensures.whole in
     let p = err_from_is_err_and c.from_residual-in_err-check_pairs.result c.from_residual-in_err-check_pairs.ensures.1 in
-    rw (p.1, p.2) (failed t c.args.from c.in_ok-cycles.cycles.value _ (word_of c.in-Some.count) rest (omega arith)
+    rw (p.1, p.2) (failed t c.args.from c.in_ok-cycles.cycles.value _ (word_of c.in_ok-count.count) rest (omega arith)
     (sym c.new-reader.ensures.left ∙ first.word) c.in_ok-cycles.ensures
     (c.in_err-check_pairs.ensures ∙ ap (λ u. pairs (length u) rest) text))
 
 pub returns : goal.returns
 returns c =
     let t = c.args.text.now in
-    let first = c.in-Some.ensures in
-    let count = word_of c.in-Some.count in
-    let rest = left c.next.new.self in
-    let text : reader_text c.next.new.self ≡ t = first.whole ∙ c.new-reader.ensures.whole in
+    let first = c.in_ok-count.ensures in
+    let count = word_of c.in_ok-count.count in
+    let rest = left c.next_word.new.reader in
+    let text : reader_text c.next_word.new.reader ≡ t = first.whole ∙ c.new-reader.ensures.whole in
     passed t c.args.from c.in_ok-cycles.cycles.value (end count) c.in_ok-check_pairs.field-0 count rest (omega arith)
     (sym c.new-reader.ensures.left ∙ first.word) c.in_ok-cycles.ensures
     (c.in_ok-check_pairs.ensures ∙ ap (λ u. pairs (length u) rest) text)

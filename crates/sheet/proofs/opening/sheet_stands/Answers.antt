@@ -10,7 +10,7 @@ use Rattle.sheet.proofs.opening.sheet_stands.Goals as goal
 
 pub returns : goal.returns
 returns c = record {
-  unserved_above = λ s p h. row_past (slot_meaning s.text.now) s.slots p (omega arith);
+  unserved_above = λ s p h. row_past slot_meaning s.slots.items p (omega (arith, s.wide));
   here = sent_first;
   elsewhere = sent_not;
   accepted = λ t from n c ws e s h p. rw e (rw (said 100000 n c s h, good_pairs (length t) ws p));

@@ -1,7 +1,7 @@
--- No more words are counted than the text has bytes.
-use Rattle.std.proofs.Common.{length, ap, arith}
-use Rattle.sheet.proofs.Bounds.{fits}
+-- The words counted are all that wait.
+use Rattle.std.proofs.lemmas.Iterator.Consumers.{count_from_yields_List, YieldsList-from_first}
+use Rattle.sheet.specs.Waits.{waits}
 use Rattle.sheet.proofs.pairs.count.Goals as goal
 
-pub overflow_add-count : goal.overflow_add-count
-overflow_add-count c = omega (arith, fits c.args.text.now c.args.from c.args.port, c.loop-found.invariant, ap length c.in-Some.ensures)
+pub returns : goal.returns
+returns c = count_from_yields_List c.new.result c.count.result c.count.ensures.ran (YieldsList-from_first (λ w. w.value) waits _ c.new.ensures)
