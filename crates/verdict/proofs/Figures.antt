@@ -1,16 +1,17 @@
 -- What is read of the numbers, items and expressions that a listing writes.
-use Rattle.std.proofs.Common.{◌≡◌, ℕ, zero, suc, ◌+◌, ◌-◌, ◌*◌, ◌^◌, ◌<◌, ◌≤◌, Bool, true, false, ◌&&◌, ◌||◌, eqb, leb, List, [], ◌∷◌, ◌++◌, map, length, get_or, take, decimal, refl, ap, ◌∙◌, subst, ap₂, ⊎_elim, mod-eq_of_lt, arith, length-append, pow_mono}
+use Rattle.std.proofs.Common.{◌≡◌, ℕ, zero, suc, ◌+◌, ◌-◌, ◌*◌, ◌^◌, ◌<◌, ◌≤◌, Bool, true, false, ◌&&◌, eqb, leb, List, [], ◌∷◌, ◌++◌, map, length, get_or, take, decimal, refl, ap, ◌∙◌, subst, ap₂, mod-eq_of_lt, arith, length-append, pow_mono}
+use Rattle.std.proofs.lemmas.Bool.Decides.{nat_tests}
 use Rattle.std.specs.Str.Parse.{AllDigits}
 use Rattle.std.proofs.lemmas.Bool.{ne_eqb, le-leb, lt-leb, cond-true, cond-false, and_from, and_parts, and_left, or_from, or_left, or_cases, leb-true, not_from_false}
 use Rattle.std.proofs.lemmas.List.{take_all}
 use Rattle.std.proofs.lemmas.Str.Parse.{digit_from_value}
 use Rattle.std.proofs.lemmas.Fmt.{decimal_is_IsNumeral, length-decimal-le}
-use Rattle.scan.specs.Names.{Bytes, is_letter, is_digit, is_letter_or_digit, is_name, all}
+use Rattle.scan.specs.Names.{Bytes, is_letter, is_letter_or_digit, is_name, all}
 use Rattle.numbers.specs.Judged.{Judged, good, check, both, front, every}
 use Rattle.numbers.specs.Splits.{split}
 use Rattle.numbers.specs.Numbers.{sum, number}
 use Rattle.numbers.proofs.Decimals.{numbers_read_back}
-use Rattle.verdict.specs.Items.{Item, constant, bits, Expression, width, number_item, name_item, begins_number, item, expression}
+use Rattle.verdict.specs.Items.{Item, constant, bits, Expression, width, number_item, name_item, item, expression}
 use Rattle.verdict.specs.Macros.{Piece, plain, opens_use, used_name, piece_at, pieces_from, Table, names_of, put_in, filled, is_known, all_known, field, expression_field, number_field, size_field, size_number, size, given}
 use Rattle.verdict.specs.Listing.{joined_by, item_text, expression_text}
 use Rattle.verdict.specs.Sound.{All, ProperName, SoundItem, SoundExpression}
@@ -56,18 +57,10 @@ decimal_short n l = let q : 100 ≤ 10 ^ 2 = omega arith in length-decimal-le 2 
 -- NAMES
 
 letter_within : (b : ℕ) → is_letter b ≡ true → (65 ≤ b) × (b ≤ 122)
-letter_within b h =
-    ⊎_elim
-    (λ e. let p = and_parts (leb 65 b) (leb b 90) e in let x : 65 ≤ b = leb-true 65 b p.0 in let y : b ≤ 90 = leb-true b 90 p.1 in (x, omega arith))
-    (λ e. let p = and_parts (leb 97 b) (leb b 122) e in let x : 97 ≤ b = leb-true 97 b p.0 in let y : b ≤ 122 = leb-true b 122 p.1 in (omega arith, y))
-    (or_cases (leb 65 b && leb b 90) (leb 97 b && leb b 122) h)
+letter_within b h = (grind (arith, nat_tests), grind (arith, nat_tests))
 
 sign_within : (b : ℕ) → is_letter_or_digit b ≡ true → (48 ≤ b) × (b ≤ 122)
-sign_within b h =
-    ⊎_elim
-    (λ e. let l = letter_within b e in (omega (arith, l.0), l.1))
-    (λ e. let p = and_parts (leb 48 b) (leb b 57) e in let x : 48 ≤ b = leb-true 48 b p.0 in let y : b ≤ 57 = leb-true b 57 p.1 in (x, omega arith))
-    (or_cases (is_letter b) (is_digit b) h)
+sign_within b h = (grind (arith, nat_tests), grind (arith, nat_tests))
 
 signs_within : (w : Bytes) → all is_letter_or_digit w ≡ true → Within 48 w
 signs_within [] h = tt
@@ -99,10 +92,7 @@ tell_item names (constant v w) = constant v w
 tell_item names (bits r b t) = bits (get_or names r []) b t
 
 begins_digit : (c : ℕ) (cs : Bytes) → 48 ≤ c → c ≤ 57 → item (c ∷ cs) ≡ number_item (split 46 (c ∷ cs))
-begins_digit c cs l u =
-    cond-false (eqb c 35) _ _ (ne_eqb c 35 (λ e. omega arith))
-    ∙ cond-true (begins_number c) _ _
-    (or_left ((is_digit c || eqb c 37) || eqb c 36) (eqb c 94) (or_left (is_digit c || eqb c 37) (eqb c 36) (or_left (is_digit c) (eqb c 37) (and_from (leb 48 c) (leb c 57) (le-leb 48 c l) (le-leb c 57 u)))))
+begins_digit c cs l u = grind (arith, nat_tests)
 
 number_item_holds : (ds es : Bytes) → 0 < length ds → All (λ b. (48 ≤ b) × (b ≤ 57)) ds → Without 46 ds → Without 46 es → item (ds ++ (46 ∷ es)) ≡ number_item (ds ∷ es ∷ [])
 number_item_holds [] es p h x y = absurd (let z : 0 < 0 = p in omega arith)
@@ -110,26 +100,8 @@ number_item_holds (c ∷ ds) es p h x y =
     begins_digit c (ds ++ (46 ∷ es)) h.0.0 h.0.1
     ∙ ap number_item (split_at 46 (c ∷ ds) es x ∙ ap (λ ps. (c ∷ ds) ∷ ps) (split_none 46 es y))
 
-letter_ways : (c : ℕ) → is_letter c ≡ true → c ≡ 94 → ⊥
-letter_ways c h z =
-    ⊎_elim
-    (λ e. let p = and_parts (leb 65 c) (leb c 90) e in let y : c ≤ 90 = leb-true c 90 p.1 in omega arith)
-    (λ e. let p = and_parts (leb 97 c) (leb c 122) e in let x : 97 ≤ c = leb-true 97 c p.0 in omega arith)
-    (or_cases (leb 65 c && leb c 90) (leb 97 c && leb c 122) h)
-
-not_number : (c : ℕ) → is_letter c ≡ true → begins_number c ≡ false
-not_number c h =
-    let l = letter_within c h in
-    or_from ((is_digit c || eqb c 37) || eqb c 36) (eqb c 94)
-    (or_from (is_digit c || eqb c 37) (eqb c 36)
-    (or_from (is_digit c) (eqb c 37) (Rattle.std.proofs.lemmas.Bool.and_right (leb 48 c) (leb c 57) (lt-leb c 57 (omega (arith, l.0)))) (ne_eqb c 37 (λ e. omega (arith, l.0))))
-    (ne_eqb c 36 (λ e. omega (arith, l.0))))
-    (ne_eqb c 94 (letter_ways c h))
-
 begins_letter : (c : ℕ) (cs : Bytes) → is_letter c ≡ true → item (c ∷ cs) ≡ name_item (split 46 (c ∷ cs))
-begins_letter c cs h =
-    let l = letter_within c h in
-    cond-false (eqb c 35) _ _ (ne_eqb c 35 (λ e. omega (arith, l.0))) ∙ cond-false (begins_number c) _ _ (not_number c h)
+begins_letter c cs h = grind (arith, nat_tests)
 
 name_item_holds : (n ds es : Bytes) → NameBytes n → Without 46 ds → Without 46 es → item (n ++ (46 ∷ (ds ++ (46 ∷ es)))) ≡ name_item (n ∷ ds ∷ es ∷ [])
 name_item_holds n ds es b x y =

@@ -1,5 +1,6 @@
 -- What is read of the words that a listing writes for one part: that part, with its claims.
 use Rattle.std.proofs.Common.{◌≡◌, ℕ, zero, suc, ◌+◌, ◌*◌, ◌<◌, ◌≤◌, true, false, ◌||◌, eqb, leb, List, [], ◌∷◌, ◌++◌, map, length, drop, decimal, sym, refl, ap, ◌∙◌, subst, arith}
+use Rattle.std.proofs.lemmas.Bool.Decides.{nat_tests}
 use lib.ListN.{length-map}
 use Rattle.std.proofs.lemmas.Bool.{ne_eqb, le-leb, and_left, and_right, or_from}
 use Rattle.std.proofs.lemmas.List.{drop-drop}
@@ -171,10 +172,7 @@ name_fair n h =
 
 figures_letter : (ds : Bytes) → All (λ b. (48 ≤ b) × (b ≤ 57)) ds → is_part_letter ds ≡ false
 figures_letter [] h = refl
-figures_letter (b ∷ ds) h =
-    or_from (same (b ∷ ds) (65 ∷ []) || same (b ∷ ds) (83 ∷ [])) (same (b ∷ ds) (77 ∷ []))
-    (or_from (same (b ∷ ds) (65 ∷ [])) (same (b ∷ ds) (83 ∷ [])) (same_first b ds 65 (λ e. omega (arith, h.0.1))) (same_first b ds 83 (λ e. omega (arith, h.0.1))))
-    (same_first b ds 77 (λ e. omega (arith, h.0.1)))
+figures_letter (b ∷ ds) h = let small : b ≤ 57 = h.0.1 in grind (arith, nat_tests)
 
 pub decimal_fair : (n : ℕ) → n ≤ 2147483647 → Fair (decimal n)
 decimal_fair n l = record {

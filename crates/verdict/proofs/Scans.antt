@@ -1,6 +1,7 @@
 -- A text of words that each have one blank after them: its words are those, at their places; and its sections.
-use Rattle.std.proofs.Common.{◌≡◌, ℕ, suc, ◌+◌, ◌-◌, ◌<◌, ◌≤◌, Bool, true, false, cond, eqb, List, [], ◌∷◌, ◌++◌, map, length, take, drop, sym, refl, ap, ◌∙◌, subst, ap₂, append_assoc, arith, length-append}
-use Rattle.std.proofs.lemmas.Bool.{ne_eqb, cond-true, cond-false}
+use Rattle.std.proofs.Common.{◌≡◌, ℕ, suc, ◌+◌, ◌-◌, ◌<◌, ◌≤◌, Bool, true, false, cond, List, [], ◌∷◌, ◌++◌, map, length, take, drop, sym, refl, ap, ◌∙◌, subst, ap₂, append_assoc, arith, length-append}
+use Rattle.std.proofs.lemmas.Bool.Decides.{nat_tests}
+use Rattle.std.proofs.lemmas.Bool.{cond-true, cond-false}
 use Rattle.std.proofs.lemmas.List.{take_at, drop-drop, drop_at}
 use Rattle.scan.specs.Names.{Bytes}
 use Rattle.scan.specs.Words.{Word, texts, class_of, cut, between, word, after, ended, words_from}
@@ -23,13 +24,7 @@ within_less lo lo' [] l h = tt
 within_less lo lo' (b ∷ w) l h = ((omega (arith, h.0.0), h.0.1), within_less lo lo' w l h.1)
 
 class_other : (b : ℕ) → 33 ≤ b → b ≤ 122 → class_of b ≡ Other
-class_other b l u =
-    cond-false (eqb b 9) _ _ (ne_eqb b 9 (λ e. omega arith))
-    ∙ (cond-false (eqb b 10) _ _ (ne_eqb b 10 (λ e. omega arith))
-    ∙ (cond-false (eqb b 13) _ _ (ne_eqb b 13 (λ e. omega arith))
-    ∙ (cond-false (eqb b 32) _ _ (ne_eqb b 32 (λ e. omega arith))
-    ∙ (cond-false (eqb b 123) _ _ (ne_eqb b 123 (λ e. omega arith))
-    ∙ cond-false (eqb b 125) _ _ (ne_eqb b 125 (λ e. omega arith))))))
+class_other b l u = grind (arith, nat_tests)
 
 -- each word with the place at which it begins, where one byte stands after each
 abbrev pub placed : ℕ → List Bytes → List Word
