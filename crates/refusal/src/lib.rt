@@ -12,6 +12,7 @@ use std::alloc::{AllocError, AllocFailed};
 
 impl Refusal {
     /// The number by which a user knows the refusal.
+    // One of the refusals carries a length, so none can be cast to its number.
     pub fn number(self) -> u32
         ensures { result ≡ number self }
     {
