@@ -12,9 +12,9 @@ use Rattle.verdict.specs.Sections.{Next, word_from, text_end, begins_macro, add_
 use Rattle.verdict.specs.Verdict.{next_word}
 use Rattle.verdict.proofs.Steps.{front, back, part_front}
 use Rattle.sections.specs.TextWords.{words_of, row_of}
-use Rattle.sections.specs.Walks.{twos, odd, marked, macro_count, until, PartUpTo}
+use Rattle.sections.specs.Walks.{twos, odd, marked, macro_count, PartUpTo}
 use Rattle.sections.specs.declared.rows.Row.{Row}
-use Rattle.sections.proofs.Steps.{plain, until_found, until_missed}
+use Rattle.sections.proofs.Steps.{plain, until, until_found, until_missed}
 
 -- STOPS
 

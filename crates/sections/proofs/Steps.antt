@@ -5,16 +5,21 @@ use Rattle.std.specs.List.{position_or_len}
 use Rattle.std.proofs.lemmas.List.Sums.{prefix_len-le-length}
 use Rattle.std.proofs.lemmas.Bool.{cond-true, cond-false, ltb-true, ltb-false}
 use Rattle.scan.specs.Names.{Bytes}
+use Rattle.scan.specs.Words.{Word}
 use Rattle.scan.specs.declared.reader.TextWord.{TextWord}
 use Rattle.verdict.specs.Sections.{begins_macro}
 use Rattle.sections.specs.TextWords.{words_of}
-use Rattle.sections.specs.Walks.{macro_count, until}
+use Rattle.sections.specs.Walks.{macro_count}
 
 -- what a read past the words would give
 abbrev pub plain : TextWord
 plain = record { text = record { ref_ptr = (0, 0); now = [] }; place = 0 }
 
--- up to the first word that passes
+-- how many words stand before the first that passes
+abbrev pub until : (Bytes → Bool) → List Word → ℕ
+until passes [] = 0
+until passes (w ∷ ws) = cond (passes w.text) 0 (suc (until passes ws))
+
 module _ (passes : Bytes → Bool) where
   until_is : (ws : List TextWord) → until passes (words_of ws) ≡ position_or_len (λ (w : TextWord). passes w.text.now) ws
   until_is [] = refl

@@ -1,6 +1,5 @@
--- Walks over words: two at a time, up to the first of a kind, and part by part.
+-- Walks over words: two at a time, and part by part.
 use Rattle.std.specs.Prelude.{◌≡◌, ℕ, suc, ◌-◌, Bool, true, false, cond, ◌&&◌, List, [], ◌∷◌, take, drop}
-use Rattle.scan.specs.Names.{Bytes}
 use Rattle.scan.specs.Words.{Word}
 use Rattle.verdict.specs.Sections.{begins_macro, part_words}
 
@@ -27,11 +26,6 @@ abbrev pub macro_count : (second : Bool) → List Word → ℕ
 macro_count second [] = 0
 macro_count true (t ∷ ws) = suc (macro_count false ws)
 macro_count false (w ∷ ws) = cond (begins_macro w.text) (suc (macro_count true ws)) 0
-
--- how many words stand before the first that passes
-abbrev pub until : (Bytes → Bool) → List Word → ℕ
-until passes [] = 0
-until passes (w ∷ ws) = cond (passes w.text) 0 (suc (until passes ws))
 
 -- of the parts from one place on, the first reaches up to another place, and the others follow there
 abbrev pub PartUpTo : List Word → ℕ → ℕ → Type 0

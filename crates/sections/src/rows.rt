@@ -9,7 +9,7 @@ ghost use Rattle.scan.specs.declared.reader.TextWord.{TextWord};
 ghost use Rattle.sections.specs.Nexts.{next_of};
 ghost use Rattle.sections.specs.Faults.{told, read_of, lack};
 ghost use Rattle.sections.specs.TextWords.{words_of, row_of, sections_of};
-ghost use Rattle.sections.specs.Walks.{marked, macro_count, until, PartUpTo};
+ghost use Rattle.sections.specs.Walks.{marked, macro_count, PartUpTo};
 
 use refusal::kinds::{Fault, Refusal};
 use scan::reader::TextWord;
@@ -112,7 +112,7 @@ fn up_to_stop<'w, 't>(words: &'w [TextWord<'t>], end: usize) -> Row<'w, 't>
     }
 }
 
-/// Which of the words taken by twos is the first pair that is no macro.
+/// Which pair of words is the first whose first word begins no macro.
 fn first_plain_pair(words: &[TextWord<'_>]) -> Option<usize>
     ensures inside { IfSome result (λ i. i * 2 < length words.now) }
     ensures here { IfSome result (λ i. (d : TextWord) → begins_macro (slice_index_or words.now (i * 2) d).text.now ≡ false) }
