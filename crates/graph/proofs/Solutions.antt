@@ -63,10 +63,6 @@ module _ {X : Type 0} (d : X) (n : ℕ) (needs : ℕ → ℕ → Bool) (eq : ℕ
     pub long : length values ≡ n
     pub each : (b : ℕ) → b < n → get_or values b d ≡ stage eq v start k b
 
-  -- before the first node, for values that agree with the start
-  pub holds_start : (values : List X) → length values ≡ n → ((b : ℕ) → b < n → get_or values b d ≡ start b) → Holds 0 values
-  holds_start values l h = record { long = l; each = h }
-
   -- one node more
   pub holds_more : (k : ℕ) (values : List X) (a : ℕ) (x : X) → a < n → a ≡ get_or v k 0 → Holds k values → x ≡ eq a (λ b. get_or values b d) → Holds (k + 1) (set values a x)
   holds_more k values a x la at h e =

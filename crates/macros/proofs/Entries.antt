@@ -1,7 +1,6 @@
 -- Why the entries of macros have the macros' names, texts and number.
-use Rattle.std.proofs.Common.{◌≡◌, ℕ, zero, suc, ◌≤◌, List, [], ◌∷◌, map, length, get_or, sym, refl, ap, ◌∙◌, arith}
+use Rattle.std.proofs.Common.{◌≡◌, ℕ, zero, suc, List, [], ◌∷◌, map, length, get_or, refl, ap, ◌∙◌}
 use lib.ListN.{length-map}
-use Rattle.std.proofs.lemmas.List.{get_or_past}
 use Rattle.scan.specs.Names.{Bytes}
 use Rattle.verdict.specs.Macros.{names_of}
 use Rattle.macros.specs.declared.uses.Macro.{Macro}
@@ -27,6 +26,3 @@ pub place_at : (ms : List Macro) (p : ℕ) → (get_or ms p blank).place ≡ get
 place_at [] p = refl
 place_at (m ∷ ms) zero = refl
 place_at (m ∷ ms) (suc p) = place_at ms p
-
-pub place_past : (ms : List Macro) (p : ℕ) → length ms ≤ p → 0 ≡ get_or (places_of ms) p 0
-place_past ms p h = sym (get_or_past (places_of ms) p 0 (omega (arith, length-map ms (λ (m : Macro). m.place))))

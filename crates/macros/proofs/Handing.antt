@@ -21,10 +21,6 @@ used : (o : Bool) (n m : Bytes) → Some n ≡ cond o (Some m) None → (o ≡ t
 used true n m e = (refl, cc)
 used false n m e = let z : ◌≡◌ {A = ℕ} 0 1 = cc in absurd (omega arith)
 
-unused : (o : Bool) (m : Bytes) → None ≡ cond o (Some m) None → o ≡ false
-unused true m e = let z : ◌≡◌ {A = ℕ} 0 1 = cc in absurd (omega arith)
-unused false m e = refl
-
 pub hands_use : (b : ℕ) (bs n : Bytes) → Some n ≡ use_at (b ∷ bs) → (pieces (b ∷ bs) ≡ macro n ∷ pieces (take (length bs - length n) (drop (length n) bs))) × (length n ≤ length bs)
 hands_use b bs n e =
     let u = used (opens_use b bs) n (run bs) e in (
@@ -34,8 +30,3 @@ hands_use b bs n e =
           ∙ ap (λ l. macro n ∷ pieces l) (sym (take_rest bs (length n))))),
       omega (arith, run_short bs, ap length u.1),
     )
-
-pub hands_plain : (b : ℕ) (bs : Bytes) → None ≡ use_at (b ∷ bs) → pieces (b ∷ bs) ≡ plain b ∷ pieces bs
-hands_plain b bs e =
-    first_piece (opens_use b bs) b bs
-    ∙ ap (λ o. cond o (macro (run bs) ∷ pieces (drop (length (run bs)) bs)) (plain b ∷ pieces bs)) (unused (opens_use b bs) (run bs) e)

@@ -43,14 +43,6 @@ passed false true true e u h = refl
 passed false true false false u h = refl
 passed false true false true u h = sym (h refl)
 
-joined : (l e n u : Bool) → (e ≡ true → u ≡ n) → ((l && n) || (e && u)) ≡ ((l || e) && n)
-joined true true true u h = refl
-joined true true false u h = h refl
-joined true false true u h = refl
-joined true false false u h = refl
-joined false true n u h = h refl
-joined false false n u h = refl
-
 module _ (t : Table) (text : Bytes) (from to x y : ℕ) (a before : Bool) (inv : before ≡ (a || (eqb x from && (ltb y to && uses_macro (get_or t y ([], [])).0 text)))) where
   pub need_added : (after : Bool) → after ≡ (before || (eqb x from && eqb y to)) → uses_macro (get_or t to ([], [])).0 text ≡ true → after ≡ (a || (eqb x from && (ltb y (to + 1) && uses_macro (get_or t y ([], [])).0 text)))
   need_added after e u =
@@ -64,15 +56,6 @@ module _ (t : Table) (text : Bytes) (from to x y : ℕ) (a before : Bool) (inv :
       inv
       ∙ (passed a (eqb x from) (ltb y to) (eqb y to) (uses_macro (get_or t y ([], [])).0 text) (λ s. subst (λ k. uses_macro (get_or t k ([], [])).0 text ≡ false) (sym (eqb-true y to s)) u)
       ∙ ap (λ b. a || (eqb x from && (b && uses_macro (get_or t y ([], [])).0 text))) (sym (below_next y to)))
-
--- all needs of one macro more
-pub needs_more : (t : Table) (text : Bytes) (from k x y : ℕ) (before after : Bool) → y < k → text ≡ (get_or t from ([], [])).1 → before ≡ (ltb x from && macro_needs t x y) → after ≡ (before || (eqb x from && (ltb y k && uses_macro (get_or t y ([], [])).0 text))) → after ≡ (ltb x (from + 1) && macro_needs t x y)
-needs_more t text from k x y before after l e inv h =
-    h
-    ∙ (ap₂ (λ b c. b || (eqb x from && (c && uses_macro (get_or t y ([], [])).0 text))) inv (lt-ltb y k l)
-    ∙ (joined (ltb x from) (eqb x from) (macro_needs t x y) (uses_macro (get_or t y ([], [])).0 text)
-    (λ s. ap (uses_macro (get_or t y ([], [])).0) (e ∙ ap (λ i. (get_or t i ([], [])).1) (sym (eqb-true x from s))))
-    ∙ ap (λ b. b && macro_needs t x y) (sym (below_next x from))))
 
 -- AN ORDER OF THE TABLE
 

@@ -1,11 +1,11 @@
 -- Why the run is measured right, and is the name with which a text begins.
-use Rattle.std.proofs.Common.{◌≡◌, ℕ, suc, ◌+◌, ◌-◌, ◌≤◌, Bool, true, false, cond, not, ◌&&◌, [], ◌∷◌, length, get_or, take, drop, Some, None, unwrap_or, sym, refl, ap, ◌∙◌, arith}
+use Rattle.std.proofs.Common.{◌≡◌, ℕ, suc, ◌+◌, ◌-◌, ◌≤◌, Bool, true, false, cond, not, [], ◌∷◌, length, get_or, take, Some, None, unwrap_or, sym, refl, ap, ◌∙◌, arith}
 use Rattle.std.specs.List.{position, position_from}
 use Rattle.std.proofs.lemmas.Iterator.Adapters.{position_from-zero}
-use Rattle.std.proofs.lemmas.Bool.{cond_both, eq-eqb, false≢true}
+use Rattle.std.proofs.lemmas.Bool.{cond_both, false≢true}
 use Rattle.scan.specs.Names.{Bytes, is_letter, is_letter_or_digit}
 use Rattle.verdict.specs.Macros.{run}
-use Rattle.macros.specs.Uses.{leading_name, use_at}
+use Rattle.macros.specs.Uses.{leading_name}
 
 run_from : (k : ℕ) (t : Bytes) → unwrap_or (position_from (λ b. not (is_letter_or_digit b)) k t) (k + length t) ≡ k + length (run t)
 run_from k [] = refl
@@ -42,9 +42,3 @@ leading_is [] k e l = absurd (false≢true e)
 leading_is (c ∷ cs) k e l =
     let same : k - 0 ≡ length (run (c ∷ cs)) = omega arith in
     ap Some (ap (λ n. take n (c ∷ cs)) same ∙ run_front (c ∷ cs)) ∙ sym (ap (λ b. cond b (Some (run (c ∷ cs))) None) e)
-
--- `~` opens a use exactly if a name stands behind it
-pub use_is : (t : Bytes) → get_or t 0 0 ≡ 126 → use_at t ≡ leading_name (drop 1 t)
-use_is [] e = absurd (omega arith)
-use_is (b ∷ []) e = refl
-use_is (b ∷ c ∷ cs) e = ap (λ x. cond (x && is_letter c) (Some (run (c ∷ cs))) None) (eq-eqb b 126 e)

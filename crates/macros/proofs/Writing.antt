@@ -1,13 +1,11 @@
 -- Why the buffer grows by what each piece stands for, and why a buffer that is too small for a part is too small for the whole.
-use Rattle.std.proofs.Common.{◌≡◌, ℕ, true, List, [], ◌∷◌, ◌++◌, length, take, Err, sym, refl, ap, ◌∙◌, append_assoc, append-nil, arith, length-append}
+use Rattle.std.proofs.Common.{◌≡◌, ℕ, List, [], ◌∷◌, ◌++◌, length, take, Err, sym, refl, ap, ◌∙◌, append_assoc, arith, length-append}
 use Rattle.std.proofs.lemmas.List.{take-append-le, take_at}
-use Rattle.std.proofs.lemmas.Bool.{and_parts}
 use Rattle.refusal.specs.declared.kinds.Failure.{Failure}
 use Rattle.refusal.specs.declared.kinds.Failure.TheVariants.{Refused, NoMemory}
-use Rattle.scan.specs.Names.{Bytes, all}
+use Rattle.scan.specs.Names.{Bytes}
 use Rattle.verdict.specs.Macros.{Piece, plain, macro, Table, text_of, put_in}
 use Rattle.macros.specs.Filling.{Wrote}
-use Rattle.macros.specs.Full.{is_before}
 
 -- what a piece stands for
 abbrev pub bytes_of : Table → Piece → Bytes
@@ -22,12 +20,6 @@ put_first f (macro n) ps = refl
 pub split : (f : Table) (o whole : Bytes) (ps rest : List Piece) (p : Piece) → ps ≡ p ∷ rest → o ++ put_in f ps ≡ whole → o ++ (bytes_of f p ++ put_in f rest) ≡ whole
 split f o whole ps rest p e h = ap (λ l. o ++ l) (sym (put_first f p rest) ∙ ap (put_in f) (sym e)) ∙ h
 
-pub go_on : (f : Table) (o o' whole : Bytes) (ps rest : List Piece) (p : Piece) → ps ≡ p ∷ rest → o ++ put_in f ps ≡ whole → o' ≡ o ++ bytes_of f p → o' ++ put_in f rest ≡ whole
-go_on f o o' whole ps rest p e h g = ap (λ l. l ++ put_in f rest) g ∙ (append_assoc o (bytes_of f p) (put_in f rest) ∙ split f o whole ps rest p e h)
-
-pub before_rest : (ns : List Bytes) (k : ℕ) (ps rest : List Piece) (p : Piece) → ps ≡ p ∷ rest → all (is_before ns k) ps ≡ true → all (is_before ns k) rest ≡ true
-before_rest ns k ps rest p e h = (and_parts (is_before ns k p) (all (is_before ns k) rest) (ap (all (is_before ns k)) (sym e) ∙ h)).1
-
 -- a part that does not fit
 pub refuse : (place : ℕ) (o₀ o o' w more rest : Bytes) (f : Failure) → o ++ (w ++ rest) ≡ o₀ ++ more → Wrote place o o' w (Err f) → Wrote place o₀ o' more (Err f)
 refuse place o₀ o o' w more rest (Refused f) e h =
@@ -37,9 +29,6 @@ refuse place o₀ o o' w more rest (Refused f) e h =
       h.2 ∙ (sym (take-append-le 1023 (o ++ w) rest (omega (arith, h.1))) ∙ ap (take 1023) whole),
     )
 refuse place o₀ o o' w more rest NoMemory e h = h
-
-pub all_done : (f : Table) (o whole : Bytes) (ps : List Piece) → ps ≡ [] → o ++ put_in f ps ≡ whole → o ≡ whole
-all_done f o whole ps e h = sym (append-nil o) ∙ (ap (λ l. o ++ put_in f l) (sym e) ∙ h)
 
 -- a full buffer holds the first bytes of what does not fit
 pub full_buffer : (o : Bytes) (b : ℕ) → length o ≡ 1023 → o ≡ take 1023 (o ++ (b ∷ []))

@@ -1,25 +1,14 @@
 -- Each piece is put behind what is written; a use is put in by the macro's own text, which uses only macros before it.
-use Rattle.std.proofs.Common.{◌≡◌, [], ◌∷◌, length, vec_items, sym, ap, ◌∙◌, subst, arith}
+use Rattle.std.proofs.Common.{◌≡◌, [], ◌∷◌, vec_items, sym, ap, ◌∙◌, subst, arith}
 use Rattle.std.proofs.lemmas.Result.{err_from_is_err_and}
-use Rattle.verdict.specs.Macros.{names_of, put_in, text_of, plain, macro}
+use Rattle.verdict.specs.Macros.{put_in, text_of, plain, macro}
 use Rattle.macros.specs.Filling.{Wrote}
 use Rattle.macros.specs.Full.{full, said}
 use Rattle.macros.specs.Pieces.{remaining, meant}
 use Rattle.macros.specs.Uses.{entries}
 use Rattle.macros.proofs.Standing.{rank_is, text_before, text_said, not_missing}
-use Rattle.macros.proofs.Writing.{split, go_on, before_rest, refuse}
+use Rattle.macros.proofs.Writing.{split, refuse}
 use Rattle.macros.proofs.expand.+expand_text_expand_use.Goals as goal
-
-pub expand_text-loop-piece-preserved-in-Continue-1 : goal.expand_text-loop-piece-preserved-in-Continue-1
-expand_text-loop-piece-preserved-in-Continue-1 t c =
-    let first : remaining c.loop-piece.piece-iterator ≡ plain c.in-Plain.byte ∷ remaining c.next.new.self =
-    c.in-Some.ensures.steps ∙ ap (λ p. meant p ∷ remaining c.next.new.self) c.in-Plain.is in
-    let wrote = c.in_ok-put-in-Plain.ensures in
-    let v = c.put.new.out.ok.0 in (
-      omega (arith, ap length wrote.0, wrote.1),
-      before_rest (names_of (entries c.args.table.now)) c.args.below (remaining c.loop-piece.piece-iterator) (remaining c.next.new.self) (plain c.in-Plain.byte) first c.loop-piece.invariant.1,
-      go_on (full c.args.below (entries c.args.table.now)) (vec_items c.loop-piece.out) (vec_items c.put.new.out) _ (remaining c.loop-piece.piece-iterator) (remaining c.next.new.self) (plain c.in-Plain.byte) first c.loop-piece.invariant.2 wrote.0,
-    )
 
 pub expand_text-returns-in_err-put-in-Plain : goal.expand_text-returns-in_err-put-in-Plain
 expand_text-returns-in_err-put-in-Plain t c =
@@ -31,17 +20,6 @@ expand_text-returns-in_err-put-in-Plain t c =
     (said c.args.below (entries c.args.table.now) c.args.text.now) (put_in (full c.args.below (entries c.args.table.now)) (remaining c.next.new.self)) _
     (split (full c.args.below (entries c.args.table.now)) (vec_items c.loop-piece.out) _ (remaining c.loop-piece.piece-iterator) (remaining c.next.new.self) (plain c.in-Plain.byte) first c.loop-piece.invariant.2)
     c.in_err-put-in-Plain.ensures)
-
-pub expand_text-loop-piece-preserved : goal.expand_text-loop-piece-preserved
-expand_text-loop-piece-preserved t c =
-    let first : remaining c.loop-piece.piece-iterator ≡ macro c.in-Use.used.now ∷ remaining c.next.new.self =
-    c.in-Some.ensures.steps ∙ ap (λ p. meant p ∷ remaining c.next.new.self) c.in-Use.is in
-    let wrote = c.in_ok-expand_use-in-Use.ensures in
-    let v = c.expand_use.new.out.ok.0 in (
-      omega (arith, ap length wrote.0, wrote.1),
-      before_rest (names_of (entries c.args.table.now)) c.args.below (remaining c.loop-piece.piece-iterator) (remaining c.next.new.self) (macro c.in-Use.used.now) first c.loop-piece.invariant.1,
-      go_on (full c.args.below (entries c.args.table.now)) (vec_items c.loop-piece.out) (vec_items c.expand_use.new.out) _ (remaining c.loop-piece.piece-iterator) (remaining c.next.new.self) (macro c.in-Use.used.now) first c.loop-piece.invariant.2 wrote.0,
-    )
 
 pub expand_text-returns-in_err-expand_use-in-Use : goal.expand_text-returns-in_err-expand_use-in-Use
 expand_text-returns-in_err-expand_use-in-Use t c =

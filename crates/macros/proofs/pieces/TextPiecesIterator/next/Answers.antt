@@ -2,7 +2,7 @@
 use Rattle.std.proofs.Common.{ap, ◌∙◌, rules}
 use Rattle.verdict.specs.Macros.{pieces}
 use Rattle.macros.specs.Uses.{use_at}
-use Rattle.macros.proofs.Handing.{hands_use, hands_plain}
+use Rattle.macros.proofs.Handing.{hands_use}
 use Rattle.macros.proofs.pieces.TextPiecesIterator.next.Goals as goal
 
 pub slice_bounds-self-count : goal.slice_bounds-self-count
@@ -19,8 +19,3 @@ returns-in-Some c =
     let h = hands_use c.in_ok-first.first.now c.in_ok-first.behind.now c.in-Some.name.now (c.in-Some.ensures ∙ ap use_at c.in_ok-first.ensures.cases.0) in
     let hands = ap pieces c.in_ok-first.ensures.cases.0 ∙ h.0 in
     search rules
-
-pub returns-in-None-clause-steps : goal.returns-in-None-clause-steps
-returns-in-None-clause-steps c =
-    ap pieces c.in_ok-first.ensures.cases.0
-    ∙ hands_plain c.in_ok-first.first.now c.in_ok-first.behind.now (c.in-None.ensures ∙ ap use_at c.in_ok-first.ensures.cases.0)
