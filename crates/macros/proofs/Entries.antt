@@ -4,7 +4,7 @@ use lib.ListN.{length-map}
 use Rattle.scan.specs.Names.{Bytes}
 use Rattle.verdict.specs.Macros.{names_of}
 use Rattle.macros.specs.declared.uses.Macro.{Macro}
-use Rattle.macros.specs.Uses.{entry, entries, places_of}
+use Rattle.macros.specs.Uses.{entry, entries}
 
 pub names_are : (ms : List Macro) → map (λ m. m.name.now) ms ≡ names_of (entries ms)
 names_are [] = refl
@@ -21,8 +21,3 @@ pub entry_at : (ms : List Macro) (p : ℕ) → entry (get_or ms p blank) ≡ get
 entry_at [] p = refl
 entry_at (m ∷ ms) zero = refl
 entry_at (m ∷ ms) (suc p) = entry_at ms p
-
-pub place_at : (ms : List Macro) (p : ℕ) → (get_or ms p blank).place ≡ get_or (places_of ms) p 0
-place_at [] p = refl
-place_at (m ∷ ms) zero = refl
-place_at (m ∷ ms) (suc p) = place_at ms p

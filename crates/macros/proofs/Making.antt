@@ -2,7 +2,7 @@
 use Rattle.std.proofs.Common.{◌≡◌, ℕ, ◌<◌, ◌≤◌, true, false, cond, not, List, [], ◌∷◌, length, get_or, Err, sym, refl, ap, ◌∙◌, subst, ap₂}
 use lib.ListN.{length-map}
 use Rattle.std.proofs.lemmas.List.{get_or-map}
-use Rattle.std.proofs.lemmas.Bool.{le-leb, lt-leb, not-false}
+use Rattle.std.proofs.lemmas.Bool.{le-leb, not-false}
 use Rattle.refusal.specs.Numbers.{number}
 use Rattle.refusal.specs.declared.kinds.Failure.{Failure}
 use Rattle.refusal.specs.declared.kinds.Failure.TheVariants.{Refused, NoMemory}
@@ -22,9 +22,6 @@ use Rattle.macros.specs.Tables.{Distinct, picked, unknowns, placed, judged, Made
 use Rattle.macros.specs.Uses.{entry, entries, places_of}
 use Rattle.macros.proofs.Arranging.{picked_length, picked_known, picked_text, in_order}
 use Rattle.macros.proofs.Same.{distinct_sorted, fields_same}
-
-pub too_many : (ms : List Macro) → 64 < length ms → judged ms ≡ refuse 16 (get_or (places_of ms) 64 0)
-too_many ms l = ap (λ b. cond b (check_macros (sorted (entries ms)) (places (sorted (placed ms)))) (refuse 16 (get_or (places_of ms) 64 0))) (lt-leb (length ms) 64 l)
 
 places_placed : (ms : List Macro) → places_of ms ≡ places (placed ms)
 places_placed [] = refl
