@@ -27,14 +27,6 @@ row_set f xs p x d g h e =
     let same : f x ≡ g (get_or (map f xs) p unserved) = e ∙ ap g (sym (row_at f xs p d h)) in
     ap (λ ms q. get_or ms q unserved) (map-set f xs p x ∙ ap (set (map f xs) p) same) ∙ ports_set (map f xs) p g long
 
--- what leaves an unserved port alone changes nothing past the row
-pub row_unset : {X : Type 0} → (f : X → Port) (xs : List X) (p : ℕ) (g : Port → Port) → length xs ≤ p → g unserved ≡ unserved
-    → row f xs ≡ at_port (row f xs) p g
-row_unset f xs p g h e = fun_ext (λ q. elim (cases_eq q p) [
-  | inl k ↦ rw k (row_past f xs p h ∙ sym (cond-true (eqb p p) (g (row f xs p)) (row f xs p) (eq-eqb p p refl) ∙ ap g (row_past f xs p h) ∙ e))
-  | inr n ↦ sym (cond-false (eqb q p) (g (row f xs q)) (row f xs q) (ne_eqb q p n))
-])
-
 -- a row of n ports that each mean what g says
 pub row_each : {X : Type 0} → (f : X → Port) (g : ℕ → Port) (n : ℕ) (xs : List X) → length xs ≡ n → ((k : ℕ) (d : X) → k < n → f (get_or xs k d) ≡ g k)
     → row f xs ≡ (λ p. cond (ltb p n) (g p) unserved)

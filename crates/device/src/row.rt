@@ -34,7 +34,8 @@ pub trait Port {
         ensures after { meaning self.new ≡ taken_port word.value (meaning self.old) };
 }
 
-/// Each port stands at its place, and past the end the ports are unserved.
+/// Each port stands at its place, and past the end the ports are unserved. This is a vector and no array, since the
+/// check takes no array of ports that borrow a text and hold a vector.
 impl<P: Port, const N: usize> Device for ArrayVec<P, N> {
     ghost meaning = { λ ports. row P.Port.meaning ports.items };
 

@@ -1,5 +1,5 @@
 -- What asking a reader for a word that must be there answers.
-use Rattle.std.specs.Prelude.{◌≡◌, ℕ, ◌+◌, ◌≤◌, [], ◌∷◌, length, Result, MatchResult, IfOk}
+use Rattle.std.specs.Prelude.{◌≡◌, ◌+◌, ◌≤◌, [], ◌∷◌, length, Result, MatchResult, IfOk}
 use Rattle.refusal.specs.declared.kinds.Fault.{Fault}
 use Rattle.refusal.specs.declared.kinds.Refusal.TheVariants.{BadSheet}
 use Rattle.scan.specs.Reading.{left, reader_text, word_of}

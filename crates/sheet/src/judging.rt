@@ -53,6 +53,7 @@ fn limited(word: TextWord<'_>, most: u32) -> Result<Word, Fault>
 }
 
 /// Judges all that the reader has left as pairs of port and word.
+#[tactic(auto, using(crate::proofs::Steps::both_good))]
 fn check_pairs(mut reader: Reader<'_>) -> Result<(), Fault>
     ensures { result ≡ pairs (length (reader_text reader.entry)) (left reader.entry) }
 {

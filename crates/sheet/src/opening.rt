@@ -21,9 +21,7 @@ impl<'t> Sheet<'t> {
         let open = |port: usize|
             requires { (length text.now < 2 ^ 32) × (port < 16) }
             ensures { slot_meaning result ≡ fresh (words_after text.entry.now from) port }
-        {
-            Slot::new(text, from, port as u32)
-        };
+        { Slot::new(text, from, port as u32) };
         Sheet {
             slots: ArrayVec::from(array::from_fn(open)),
         }

@@ -1,5 +1,5 @@
 -- One port of the row is changed.
-use Rattle.std.proofs.Common.{◌≡◌, ap, ◌∙◌, rules}
+use Rattle.std.proofs.Common.{ap, ◌∙◌, rules}
 use Rattle.device.specs.Meaning.{given_port}
 use Rattle.device.proofs.Places.{row_set}
 use Rattle.device.proofs.row.ArrayVecDevice.give.Goals as goal
