@@ -19,12 +19,12 @@ ports_set ms p g h = fun_ext (λ q. elim (cases_eq q p) [
   | inr n ↦ get_or-set_other ms p q (g (get_or ms p unserved)) unserved n ∙ sym (cond-false (eqb q p) (g (get_or ms q unserved)) (get_or ms q unserved) (ne_eqb q p n))
 ])
 
--- a write of what means the change is a change at that port
-pub row_set : {X : Type 0} → (f : X → Port) (xs : List X) (p : ℕ) (x d : X) (g : Port → Port) → p < length xs → f x ≡ g (f (get_or xs p d))
+-- where y stood and x is written, which means what the change makes of y, that is a change at that port
+pub row_set : {X : Type 0} → (f : X → Port) (xs : List X) (p : ℕ) (x y : X) (g : Port → Port) → p < length xs → y ≡ get_or xs p y → f x ≡ g (f y)
     → row f (set xs p x) ≡ at_port (row f xs) p g
-row_set f xs p x d g h e =
+row_set f xs p x y g h was e =
     let long : p < length (map f xs) = simp length-map h in
-    let same : f x ≡ g (get_or (map f xs) p unserved) = e ∙ ap g (sym (row_at f xs p d h)) in
+    let same : f x ≡ g (get_or (map f xs) p unserved) = e ∙ ap g (ap f was ∙ sym (row_at f xs p y h)) in
     ap (λ ms q. get_or ms q unserved) (map-set f xs p x ∙ ap (set (map f xs) p) same) ∙ ports_set (map f xs) p g long
 
 -- a row of n ports that each mean what g says
