@@ -1,4 +1,11 @@
 //! The values of expressions and parts, from the words that the parts show by rank.
+ghost use Rattle.std.specs.Prelude.{◌≡◌, length, nat_le};
+ghost use Rattle.std.specs.Option.{is_none};
+ghost use Rattle.verdict.specs.Items.{width};
+ghost use Rattle.verdict.specs.Values.{item_value};
+ghost use Rattle.circuit.specs.Meaning.{item_by};
+ghost use Rattle.circuit.specs.Worth.{shown_by, worth, is_astray};
+
 use crate::parts::{Body, Expression, Item, Part};
 use crate::wiring::Circuit;
 use word::functions::alu;
@@ -7,13 +14,17 @@ use word::width::Width;
 use word::widths::place;
 
 /// The word that a rank shows, and 0 past the last.
-fn shown_at(shown: &[Word], rank: usize) -> Word {
+fn shown_at(shown: &[Word], rank: usize) -> Word
+    ensures { result.value ≡ shown_by shown.now rank }
+{
     shown.get(rank).copied().unwrap_or(Word::zero())
 }
 
 impl Item<usize> {
     /// How many bits the item has.
-    fn width(self) -> Width {
+    fn width(self) -> Width
+        ensures { result.bits ≡ width (item_by (λ r. r) self) }
+    {
         match self {
             Item::Constant(_, width) => width,
             Item::Bits(_, range) => range.width(),
@@ -21,7 +32,9 @@ impl Item<usize> {
     }
 
     /// The value of the item.
-    fn value(self, shown: &[Word]) -> Word {
+    fn value(self, shown: &[Word]) -> Word
+        ensures { result.value ≡ item_value (shown_by shown.now) (item_by (λ r. r) self) }
+    {
         match self {
             Item::Constant(value, width) => width.low(value),
             Item::Bits(rank, range) => range.take(shown_at(shown, rank)),
@@ -30,7 +43,9 @@ impl Item<usize> {
 }
 
 /// The value of several items joined, the highest first.
-fn joined(items: &[Item<usize>], shown: &[Word]) -> Word {
+fn joined(items: &[Item<usize>], shown: &[Word]) -> Word
+    ensures { result.value ≡ worth shown.now items.now }
+{
     let mut value = Word::zero();
     for item in items {
         value = place(value, item.width(), item.value(shown));
@@ -39,7 +54,9 @@ fn joined(items: &[Item<usize>], shown: &[Word]) -> Word {
 }
 
 /// The value of an expression. Most have one item, which needs no joining.
-pub fn worth(items: &[Item<usize>], shown: &[Word]) -> Word {
+pub fn worth(items: &[Item<usize>], shown: &[Word]) -> Word
+    ensures { result.value ≡ worth shown.now items.now }
+{
     match items {
         [only] => only.value(shown),
         _ => joined(items, shown),
@@ -51,13 +68,17 @@ fn chosen<'c>(
     select: &Expression,
     cases: &'c [Expression],
     shown: &[Word],
-) -> Option<&'c Expression> {
+) -> Option<&'c Expression>
+    ensures { is_none result ≡ nat_le (length cases.now) (worth shown.now select.now.items) }
+{
     cases.get(worth(select.as_slice(), shown).value as usize)
 }
 
 impl Part {
     /// Whether the part is a selector that has no case of the number that its select field gives.
-    pub fn is_astray(&self, shown: &[Word]) -> bool {
+    pub fn is_astray(&self, shown: &[Word]) -> bool
+        ensures { result ≡ is_astray shown.now self.now }
+    {
         match &self.body {
             Body::Selector { select, cases } => chosen(select, cases.as_slice(), shown).is_none(),
             Body::Alu { .. } | Body::Memory { .. } => false,

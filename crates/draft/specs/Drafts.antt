@@ -64,10 +64,12 @@ references_of d = named_in_parts (vec_items d.parts)
 
 -- the names met, the last one first, the items and the memory words
 abbrev pub taken_of : Draft → Taken
-taken_of d = record { names = reverse (names_of d); items = d.items; memory = d.words }
+taken_of d = record { names = reverse (names_of d); items = d.items.taken; memory = d.words.taken }
 
 -- nothing was read yet
 pub record Blank (d : Draft) : Type 0 where
   pub parts : vec_items d.parts ≡ []
-  pub items : d.items ≡ 0
-  pub words : d.words ≡ 0
+  pub items : d.items.taken ≡ 0
+  pub most_items : d.items.most ≡ 2048
+  pub words : d.words.taken ≡ 0
+  pub most_words : d.words.most ≡ 4096

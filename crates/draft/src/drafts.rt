@@ -1,4 +1,6 @@
 //! The parts that were read so far.
+ghost use Rattle.std.specs.Prelude.{◌≡◌, ◌≤◌};
+
 use circuit::parts::{Body, Item};
 use names::new_name;
 use refusal::kinds::{Fault, Refusal};
@@ -9,7 +11,7 @@ use scan::reader::TextWord;
 pub const MOST_WORDS: usize = 4096;
 
 /// How many items a drawing may have.
-const MOST_ITEMS: usize = 2048;
+pub(crate) const MOST_ITEMS: usize = 2048;
 
 /// An expression in a text: its items, the highest first, and the place of its word.
 #[derive(Drop)]
@@ -26,40 +28,45 @@ pub struct Drafted {
     pub body: Body<Field>,
 }
 
-/// The parts that were read so far, and how much they took of what is limited in a drawing.
+/// How much is taken of what a drawing may have at most.
+#[derive(Clone, Copy, Debug, PartialEq, Eq)]
+pub struct Room {
+    pub taken: usize,
+    pub most: usize,
+    ghost within: { taken ≤ most },
+}
+
+impl Room {
+    ghost use Rattle.draft.specs.Rooms.{claimed, taken_after};
+
+    /// Takes so much more. It is refused where that is over the most.
+    pub fn claim(&mut self, more: usize, place: usize) -> Result<(), Fault>
+        ensures answer { result ≡ claimed self.old more place }
+        ensures taken { self.new.taken ≡ taken_after self.old more }
+        ensures most { self.new.most ≡ self.old.most }
+    {
+        if more > self.most - self.taken {
+            return Err(Refusal::OverLimit.at(place));
+        }
+        self.taken += more;
+        Ok(())
+    }
+}
+
+/// The parts that were read so far, and how much they and the one that is being read took.
 #[derive(Drop)]
 pub struct Draft {
     /// The parts in text order.
     pub parts: Vec<Drafted>,
-    /// How many items all expressions have, of the part that is being read too.
-    pub items: usize,
-    /// How many words all memories have, of the part that is being read too.
-    pub words: usize,
-}
-
-/// What is taken with some more, unless that is over the most there may be.
-fn claimed(taken: usize, more: usize, most: usize, place: usize) -> Result<usize, Fault> {
-    match taken.checked_add(more) {
-        Some(total) if total <= most => Ok(total),
-        _ => Err(Refusal::OverLimit.at(place)),
-    }
+    /// The items of all expressions.
+    pub items: Room,
+    /// The words of all memories.
+    pub words: Room,
 }
 
 impl Draft {
     /// The name of one more part.
     pub fn name(&self, word: TextWord<'_>) -> Result<Name, Fault> {
         new_name(self.parts.as_slice(), word.text, word.place)
-    }
-
-    /// Takes so many items more, unless the drawing would have too many.
-    pub fn claim_items(&mut self, count: usize, place: usize) -> Result<(), Fault> {
-        self.items = claimed(self.items, count, MOST_ITEMS, place)?;
-        Ok(())
-    }
-
-    /// Takes so many memory words more, unless the drawing would have too many.
-    pub fn claim_words(&mut self, count: usize, place: usize) -> Result<(), Fault> {
-        self.words = claimed(self.words, count, MOST_WORDS, place)?;
-        Ok(())
     }
 }

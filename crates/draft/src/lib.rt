@@ -11,7 +11,7 @@ use std::alloc::Global;
 pub mod drafts;
 pub mod entry;
 
-use drafts::{Draft, Drafted};
+use drafts::{Draft, Drafted, MOST_ITEMS, MOST_WORDS, Room};
 use entry::Entry;
 
 impl Named for Drafted {
@@ -53,8 +53,14 @@ impl Draft {
     {
         Draft {
             parts: Vec::new(heap),
-            items: 0,
-            words: 0,
+            items: Room {
+                taken: 0,
+                most: MOST_ITEMS,
+            },
+            words: Room {
+                taken: 0,
+                most: MOST_WORDS,
+            },
         }
     }
 }

@@ -123,7 +123,7 @@ fn ranked_body(
 }
 
 /// The parts of a circuit, of parts that stand by name.
-pub fn ranked_parts(heap: Global, parts: &[&Drafted]) -> Result<Vec<Part>, AllocError> {
+fn ranked_parts(heap: Global, parts: &[&Drafted]) -> Result<Vec<Part>, AllocError> {
     let mut all = Vec::new(heap);
     for part in parts {
         all.push(Part {

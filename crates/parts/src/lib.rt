@@ -120,7 +120,7 @@ impl<'t> PartReader<'t> {
     pub fn expression(&mut self, draft: &mut Draft, word: TextWord<'_>) -> Result<Field, Failure> {
         self.fill(word)?;
         let count = judge(self.field.as_slice(), word.place)?;
-        draft.claim_items(count, word.place)?;
+        draft.items.claim(count, word.place)?;
         let mut items = Vec::new(self.heap);
         keep(self.field.as_slice(), word.place, &mut items)?;
         Ok(Field {
@@ -226,11 +226,11 @@ impl<'t> PartReader<'t> {
         self.fill(word)?;
         match size_of(self.field.as_slice(), word.place)? {
             Size::Zeros(count) => {
-                draft.claim_words(count, word.place)?;
+                draft.words.claim(count, word.place)?;
                 Ok(vec![in self.heap; Word::zero(); count]?)
             }
             Size::Given(count) => {
-                draft.claim_words(count, word.place)?;
+                draft.words.claim(count, word.place)?;
                 self.given(words, count)
             }
         }
