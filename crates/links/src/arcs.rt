@@ -5,7 +5,7 @@ ghost use Rattle.std.specs.Prelude.{◌≡◌, ℕ, ◌<◌, ◌≤◌, [], leng
 pub(crate) const MOST_NODES: usize = 64;
 
 /// Which of `count` nodes needs which: row a says at b whether a needs b.
-#[derive(Clone, Copy)]
+#[derive(Clone, Copy, Debug, PartialEq, Eq)]
 pub struct Links {
     pub(crate) count: usize,
     pub(crate) arcs: [[bool; MOST_NODES]; MOST_NODES],

@@ -11,7 +11,7 @@ use names::{Named, Placed, find};
 use scan::bytes::{is_letter, is_letter_or_digit, is_same};
 
 /// A macro by its name, its text and the place of its `~`.
-#[derive(Clone, Copy)]
+#[derive(Clone, Copy, Debug, PartialEq, Eq)]
 pub struct Macro<'t> {
     pub name: &'t [u8],
     pub text: &'t [u8],
