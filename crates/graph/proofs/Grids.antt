@@ -1,17 +1,11 @@
 -- Tables and grids place by place: one entry more, what stands where, tables that agree, and one round more.
-use Rattle.std.proofs.Common.{◌≡◌, ℕ, suc, ◌+◌, ◌<◌, Bool, false, ◌&&◌, ◌||◌, List, [], ◌∷◌, ◌++◌, map, length, get_or, vec_items, Vec, sym, ap, ◌∙◌, subst, ap₂, add-one, arith}
+use Rattle.std.proofs.Common.{◌≡◌, ℕ, suc, ◌+◌, ◌<◌, Bool, false, ◌&&◌, ◌||◌, List, [], map, length, get_or, vec_items, Vec, sym, ap, ◌∙◌, subst, ap₂, add-one, arith}
 use Rattle.std.specs.List.{zip}
-use Rattle.std.proofs.lemmas.List.FromFn.{map-range_with_len_more, get_or-map-range_with_len, length-map-range_with_len, fill_by_all}
+use Rattle.std.proofs.lemmas.List.FromFn.{get_or-map-range_with_len, length-map-range_with_len, fill_by_all}
 use Rattle.std.proofs.lemmas.Slice.Zip.{get_or-zip, length-zip}
-use Rattle.std.proofs.lemmas.List.{map_push, same_lists, length-map, get_or-map, get_or_read}
+use Rattle.std.proofs.lemmas.List.{same_lists, length-map, get_or-map, get_or_read}
 use Rattle.graph.specs.Grid.{table, grid, bits, cell, Square, through}
 use Rattle.graph.specs.Reach.{reaches}
-
-pub table_push : {X : Type 0} (f : ℕ → X) (k : ℕ) (v : List X) (x : X) → v ≡ table k f → x ≡ f k → v ++ x ∷ [] ≡ table (k + 1) f
-table_push f k v x e h = ap₂ (λ w y. w ++ y ∷ []) e h ∙ sym (map-range_with_len_more f 0 k k (omega arith))
-
-pub bits_push : {Z : Type 0} (f : ℕ → List Bool) (k : ℕ) (v : List (Vec Bool Z)) (x : Vec Bool Z) → bits v ≡ table k f → vec_items x ≡ f k → bits (v ++ x ∷ []) ≡ table (k + 1) f
-bits_push f k v x e h = map_push vec_items v x ∙ table_push f k (bits v) (vec_items x) e h
 
 pub table_same : {X : Type 0} (n : ℕ) (f g : ℕ → X) → ((k : ℕ) → k < n → f k ≡ g k) → table n f ≡ table n g
 table_same n f g h =
@@ -58,10 +52,20 @@ row_joined row via joins same =
     get_or-map (λ p. p.0 || (joins && p.1)) (zip row via) k (false, false) false (omega (arith, length-zip row via))
     ∙ ap (λ p. p.0 || (joins && p.1)) (get_or-zip row via k (false, false) l (omega arith)))
 
--- the row that `next_row` makes of the rows i and k
-pub next_is : {Z : Type 0} (rows : List (Vec Bool Z)) (i k : ℕ) (ri rk v : List Bool) → ri ≡ get_or (bits rows) i [] → rk ≡ get_or (bits rows) k [] → length ri ≡ length rows → v ≡ table (length ri) (λ j. get_or ri j false || (get_or ri k false && get_or rk j false)) → v ≡ table (length rows) (through (cell (bits rows)) k i)
-next_is rows i k ri rk v ei ek el h =
-    h ∙ (ap (λ m. table m (λ j. get_or ri j false || (get_or ri k false && get_or rk j false))) el ∙ ap₂ (λ r s. table (length rows) (λ j. get_or r j false || (get_or r k false && get_or s j false))) ei ek)
+-- the row that `next_row` makes of two rows
+abbrev pub joined : ℕ → List Bool → List Bool → List Bool
+joined k via row = table (length row) (λ j. get_or row j false || (get_or row k false && get_or via j false))
+
+-- and all rows of the next round
+pub rows_next : (g : List (List Bool)) (k n : ℕ) (via : List Bool) → length g ≡ n → Square g → via ≡ get_or g k [] → map (joined k via) g ≡ grid n (through (cell g) k)
+rows_next g k n via long square e =
+    fill_by_all (λ i. table n (through (cell g) k i)) (map (joined k via) g) n [] (length-map g (joined k via) ∙ long)
+    (λ i l.
+    let l' : i < length g = omega (arith, long) in
+    let row = get_or g i [] in
+    get_or-map (joined k via) g i [] [] l'
+    ∙ (ap (λ m. table m (λ j. get_or row j false || (get_or row k false && get_or via j false))) (square i l' ∙ long)
+    ∙ ap (λ s. table n (λ j. get_or row j false || (get_or row k false && get_or s j false))) e))
 
 module _ {Z : Type 0} (rows : List (Vec Bool Z)) (n : ℕ) (f : ℕ → ℕ → Bool) (e : bits rows ≡ grid n f) where
   pub rows_length : length rows ≡ n

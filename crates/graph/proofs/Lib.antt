@@ -6,3 +6,4 @@ pub mod Grids
 pub mod Layers
 pub mod Lengths
 pub mod Solutions
+pub mod Gathering

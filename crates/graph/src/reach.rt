@@ -19,12 +19,9 @@ fn first_row<G: Graph>(heap: Global, g: &G, a: usize) -> Result<Vec<bool>, Alloc
 fn first_rows<G: Graph>(heap: Global, g: &G) -> Result<Vec<Vec<bool>>, AllocError>
     ensures { IfOk result (λ v. bits v.items ≡ grid (G.size g.now) (G.wants g.now)) }
 {
-    let mut rows = Vec::new(heap);
-    // A loop: of `try_collect`, where a row may lack memory, the proof did not close.
-    for a in 0..g.nodes() {
-        rows.push(first_row(heap, g, a)?)?;
-    }
-    Ok(rows)
+    (0..g.nodes())
+        .map(|a| first_row(heap, g, a))
+        .try_collect(heap)
 }
 
 /// A row once its node also reaches what node `k` reaches, if it reaches `k`; `via` is the row of `k`.
@@ -47,12 +44,10 @@ fn next_rows(heap: Global, rows: &[Vec<bool>], k: usize) -> Result<Vec<Vec<bool>
     ensures { IfOk result (λ v. bits v.items ≡ grid (length rows.now) (through (cell (bits rows.now)) k)) }
 {
     let via = rows[k].as_slice();
-    let mut next = Vec::new(heap);
-    // A loop: of `try_collect`, where a row may lack memory, the proof did not close.
-    for row in rows {
-        next.push(next_row(heap, row.as_slice(), via, k)?)?;
-    }
-    Ok(next)
+    rows.iter()
+        .map(|row| row.as_slice())
+        .map(|row| next_row(heap, row, via, k))
+        .try_collect(heap)
 }
 
 /// Which node reaches which: row a says of b whether a chain leads from a to b.

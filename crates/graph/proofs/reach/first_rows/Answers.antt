@@ -1,13 +1,16 @@
--- Each turn adds the row of one node.
-use Rattle.std.proofs.Common.{ap, ◌∙◌}
-use Rattle.std.proofs.lemmas.Result.{IfOk-at_ok}
-use Rattle.graph.specs.Grid.{table, bits}
-use Rattle.graph.proofs.Grids.{bits_push}
+-- The chain gathers the row of each node.
+use Rattle.std.proofs.Common.{sym, arith, rules}
+use Rattle.std.specs.List.{range_with_len}
+use Rattle.std.proofs.lemmas.Iterator.{YieldsList-from_range}
+use Rattle.std.proofs.lemmas.Result.{IfOk-weaker}
+use Rattle.graph.specs.Grid.{table}
+use Rattle.graph.proofs.Gathering.{gathered}
 use Rattle.graph.proofs.reach.first_rows.Goals as goal
 
-pub loop-a-preserved : goal.loop-a-preserved
-loop-a-preserved g c =
-    let m = g.G.Graph in
-    let pushed = rw c.in_ok-push.was at c.push.ensures.items in
-    let row = IfOk-at_ok _ c.in_ok-first_row.was c.first_row.ensures in
-    ap bits pushed ∙ bits_push (λ i. table (m.size c.args.g.now) (m.wants c.args.g.now i)) c.loop-a.a _ _ c.loop-a.invariant row
+pub returns : goal.returns
+returns g c =
+    let n = g.G.Graph.size c.args.g.now in
+    IfOk-weaker c.try_collect.result _ _
+    (λ w ran. gathered _ (λ x. x) _ (λ a. table n (g.G.Graph.wants c.args.g.now a)) _ (λ x r q k. (search rules, search rules)) _ (λ p x q k. (k.0, sym k.1, k.2.0))
+    (range_with_len 0 n) (YieldsList-from_range 0 n n (search rules) (omega arith)) c.map.ensures.closure w ran.0 ran.1 ran.2 ran.3.0 ran.4)
+    c.try_collect.ensures.ran

@@ -1,21 +1,32 @@
--- Each turn adds the next row of one node; all rows are as long as there are rows.
-use Rattle.std.proofs.Common.{length, sym, ap, ◌∙◌, arith}
-use Rattle.graph.specs.Grid.{table, bits, cell, through}
-use Rattle.graph.proofs.Grids.{row_read, row_long, next_is, bits_push}
+-- The chain gathers the next row of each node; all rows are as long as there are rows.
+use Rattle.std.proofs.Common.{◌≡◌, [], length, vec_items, sym, ap, ◌∙◌, rules, tests}
+use Rattle.std.proofs.lemmas.List.{length-map, get_or_read}
+use Rattle.std.proofs.lemmas.Iterator.{YieldsList-from_slice, YieldsList-from_map_by}
+use Rattle.std.proofs.lemmas.Iterator.Adapters.{serves_from_places}
+use Rattle.std.proofs.lemmas.Result.{IfOk-weaker}
+use Rattle.graph.specs.Grid.{bits}
+use Rattle.graph.proofs.Grids.{row_read, row_long, joined, rows_next}
+use Rattle.graph.proofs.Gathering.{gathered}
 use Rattle.graph.proofs.reach.next_rows.Goals as goal
 
-pub next_row-requires : goal.next_row-requires
-next_row-requires c =
+pub try_collect-requires-clause-can : goal.try_collect-requires-clause-can
+try_collect-requires-clause-can c =
     let rows = c.args.rows.now in
-    let long-row = ap length c.as_slice.ensures.value ∙ row_long rows c.loop-row.row-index c.row-item.result c.loop-row-test.true c.row-item.is c.requires.square in
-    let long-k = ap length c.as_slice-via.ensures.value ∙ row_long rows c.args.k c.index-rows-k.result c.requires.within c.index-rows-k.is c.requires.square in
-    record { within = omega (arith, long-row, c.requires.within); same = long-k ∙ sym long-row }
+    let long-k = ap length c.as_slice-via.ensures.value ∙ row_long rows c.args.k c.index-rows-k.result c.requires.within c.index-rows-k.is c.requires.square in (
+      search rules,
+      serves_from_places (YieldsList-from_map_by _ (λ r. r.now) vec_items (YieldsList-from_slice rows (cc)) c.map.ensures.closure (λ x r q k. (search rules, search rules)))
+          (λ x q k. search (rules, tests)) (λ x i l e.
+          let long : length x.now ≡ length rows = ap length (get_or_read (bits rows) i x.now l e []) ∙ (c.requires.square i l ∙ length-map rows vec_items) in
+          search rules),
+    )
 
-pub loop-row-preserved : goal.loop-row-preserved
-loop-row-preserved c =
+pub returns : goal.returns
+returns c =
     let rows = c.args.rows.now in
-    let row = c.as_slice.ensures.value ∙ row_read rows c.loop-row.row-index c.row-item.result c.loop-row-test.true c.row-item.is in
-    let via = c.as_slice-via.ensures.value ∙ row_read rows c.args.k c.index-rows-k.result c.requires.within c.index-rows-k.is in
-    let long = ap length c.as_slice.ensures.value ∙ row_long rows c.loop-row.row-index c.row-item.result c.loop-row-test.true c.row-item.is c.requires.square in
-    let next = next_is rows c.loop-row.row-index c.args.k _ _ _ row via long c.in_ok-next_row.ensures in
-    ap bits c.in_ok-push.ensures.items ∙ bits_push (λ i. table (length rows) (through (cell (bits rows)) c.args.k i)) c.loop-row.row-index _ _ c.loop-row.invariant next
+    let via = c.as_slice-via.result.now in
+    let same = c.as_slice-via.ensures.value ∙ row_read rows c.args.k c.index-rows-k.result c.requires.within c.index-rows-k.is in
+    IfOk-weaker c.try_collect.result _ _
+    (λ w ran. gathered _ (λ x. x.now) _ (joined c.args.k via) _ (λ x r q k. (search rules, search rules)) _ (λ p x q k. (k.0, sym k.1, k.2.0))
+    (bits rows) (YieldsList-from_map_by _ (λ r. r.now) vec_items (YieldsList-from_slice rows (cc)) c.map.ensures.closure (λ x r q k. (search rules, search rules))) c.map-2.ensures.closure w ran.0 ran.1 ran.2 ran.3.0 ran.4
+    ∙ rows_next (bits rows) c.args.k (length rows) via (length-map rows vec_items) c.requires.square same)
+    c.try_collect.ensures.ran
