@@ -55,6 +55,7 @@ pub(crate) fn reached<G: Graph>(heap: Global, g: &G) -> Result<Vec<Vec<bool>>, A
     ensures { IfOk result (λ v. bits v.items ≡ grid (G.size g.now) (reaches (G.wants g.now) (G.size g.now))) }
 {
     let mut rows = first_rows(heap, g)?;
+    // The loop counts rounds, and walks no list.
     for k in 0..g.nodes() {
         rows = next_rows(heap, rows.as_slice(), k)?;
     }

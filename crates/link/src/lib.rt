@@ -63,7 +63,8 @@ pub fn check_references(drafted: &[Drafted], parts: &[&Drafted]) -> Result<(), F
     Ok(())
 }
 
-/// The rank of a name among parts that stand by name, or their number if none has it.
+/// The rank of a name among parts that stand by name. Each name was checked before, so one that none has, which would get
+/// the number of parts, does not occur.
 fn rank_of(parts: &[&Drafted], name: &Name) -> usize {
     find(parts, name.as_bytes()).unwrap_or(parts.len())
 }

@@ -57,6 +57,7 @@ fn limited(word: TextWord<'_>, most: u32) -> Result<Word, Fault>
 fn check_pairs(mut reader: Reader<'_>) -> Result<(), Fault>
     ensures { result ≡ pairs (length (reader_text reader.entry)) (left reader.entry) }
 {
+    // Each turn takes two words, so no `for` over the reader will do.
     while let Some(port) = reader.next() {
         limited(port, LAST_PORT)?;
         number_in(next_word(&mut reader)?)?;

@@ -39,6 +39,7 @@ impl<'a> Iterator for Reader<'a> {
 
     /// The next word, or none where no more is left.
     fn next(&mut self) -> Option<TextWord<'a>> {
+        // A loop over bytes: the next call goes on where it stops.
         while let Some(byte) = self.text.get(self.at) {
             let at = self.at;
             self.at += 1;
