@@ -1,7 +1,10 @@
 -- Writing behind a writing is one writing, since what is past the end is never written.
-use Rattle.std.proofs.Common.{◌≡◌, ℕ, zero, suc, ◌+◌, ◌^◌, ◌<◌, ◌≤◌, min, List, [], ◌∷◌, ◌++◌, length, set, sym, refl, ap, ◌∙◌, inl, inr, arith, length-append, length-set}
+use Rattle.std.proofs.Common.{◌≡◌, ℕ, zero, suc, ◌+◌, ◌^◌, ◌<◌, ◌≤◌, min, List, [], ◌∷◌, ◌++◌, length, set, take, slice_index_or, sym, refl, ap, ◌∙◌, inl, inr, arith, length-append, length-set}
+use Rattle.std.proofs.lemmas.List.{take_more}
 use Rattle.std.proofs.str.Laws.{order}
 use Rattle.lines.specs.Laid.{laid, Put}
+use Rattle.lines.specs.Pages.{Adds}
+use Rattle.lines.specs.declared.Page.{Page}
 
 pub set_past : (out : List ℕ) (at b : ℕ) → length out ≤ at → set out at b ≡ out
 set_past [] at b h = refl
@@ -31,3 +34,14 @@ puts_then at m r xs bs out mid end h p q = record {
   holds = q.holds ∙ ap (λ k. laid k bs mid) p.after ∙ ap (λ l. laid (min (at + length xs) 18446744073709551615) bs l) p.holds
       ∙ laid_capped bs (laid at xs out) (at + length xs) (rw length_laid h) ∙ laid_then xs bs out at;
 }
+
+-- the same on a page, whose buffer is no longer than the machine can tell
+pub adds_then : (xs bs : List ℕ) (page page' page'' : Page) → Adds xs page page' → Adds bs page' page'' → Adds (xs ++ bs) page page''
+adds_then xs bs page page' page'' p q = record {
+  same_reference = q.same_reference ∙ p.same_reference;
+  put = puts_then _ _ _ _ _ _ _ _ page.short p.put q.put;
+}
+
+-- one byte more of some bytes
+pub adds_more : (bs : List ℕ) (i : ℕ) (page page' page'' : Page) → i < length bs → Adds (take i bs) page page' → Adds (slice_index_or bs i 0 ∷ []) page' page'' → Adds (take (i + 1) bs) page page''
+adds_more bs i page page' page'' h p q = rw (take_more bs i 0 h) (adds_then _ _ _ _ _ p q)

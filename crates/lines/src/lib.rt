@@ -1,40 +1,87 @@
-//! Bytes, texts and numbers written into a lent buffer, as far as it goes. Each function answers the place after what it
-//! wrote, also past the buffer's end, so that writing into an empty buffer tells a length.
+//! Bytes, texts and numbers written into a lent buffer, as far as it goes. A page counts also what is past the buffer's
+//! end, so that a page over an empty buffer tells a length.
 #![tactic(auto)]
 
-ghost use Rattle.std.specs.Prelude.{◌≡◌, ℕ, ◌+◌, ◌^◌, ◌<◌, ◌≤◌, [], ◌∷◌, length, decimal};
-ghost use Rattle.lines.specs.Laid.{laid, Put};
+ghost use Rattle.std.specs.Prelude.{◌≡◌, ℕ, ◌+◌, ◌^◌, ◌<◌, ◌≤◌, [], ◌∷◌, length, decimal, IfOk, IfErr, OnErr};
 
-/// Writes one byte.
-pub fn put_byte(out: &mut [u8], at: usize, byte: u8) -> usize
-    ensures { Put at (byte ∷ []) out.old out.new result }
-{
-    if at < out.len() {
-        out[at] = byte;
-    }
-    at.saturating_add(1)
+use itoa::Buffer;
+use std::fmt;
+
+/// A lent buffer, written up to a place, which may be past its end.
+#[derive(Drop)]
+pub struct Page<'b> {
+    pub out: &'b mut [u8],
+    pub at: usize,
+    ghost short: { length out.now < 2 ^ 64 },
 }
 
-/// Writes some bytes.
-pub fn put(out: &mut [u8], at: usize, bytes: &[u8]) -> usize
-    ensures { Put at bytes.now out.old out.new result }
-{
-    let mut end = at;
-    for byte in bytes {
-        end = put_byte(out, end, *byte);
+impl<'b> Page<'b> {
+    ghost use Rattle.lines.specs.Pages.{Adds};
+
+    /// A page on which nothing is written.
+    pub fn new(out: &'b mut [u8]) -> Page<'b>
+        ensures same_reference { result.out.ghost_name ≡ out.entry.ghost_name }
+        ensures bytes { result.out.now ≡ out.old }
+        ensures at { result.at ≡ 0 }
+    {
+        Page { out, at: 0 }
     }
-    end
+
+    /// Writes one byte.
+    pub fn byte(&mut self, byte: u8)
+        ensures { Adds (byte ∷ []) self.old self.new }
+    {
+        if self.at < self.out.len() {
+            self.out[self.at] = byte;
+        }
+        self.at = self.at.saturating_add(1);
+    }
+
+    /// Writes some bytes.
+    pub fn text(&mut self, bytes: &[u8])
+        ensures { Adds bytes.now self.old self.new }
+    {
+        for byte in bytes {
+            self.byte(*byte);
+        }
+    }
+
+    /// Writes a number in decimal digits.
+    pub fn number(&mut self, number: u32)
+        ensures { Adds (decimal number) self.old self.new }
+    {
+        let mut digits = Buffer::new();
+        self.text(digits.format(number).as_bytes());
+    }
 }
 
-/// Writes a number in decimal digits.
-pub fn put_number(out: &mut [u8], at: usize, number: u32) -> usize
-    ensures { Put at (decimal number) out.old out.new result }
-{
-    if number < 10 {
-        return put_byte(out, at, b'0' + number as u8);
+impl fmt::Write for Page<'_> {
+    ghost use Rattle.lines.specs.Pages.{Adds};
+
+    ghost write_str_gives = { λ page bytes after. Adds bytes page after };
+
+    fn write_str(&mut self, text: &str) -> fmt::Result {
+        self.text(text.as_bytes());
+        Ok(())
     }
-    let last = put_number(out, at, number / 10);
-    put_byte(out, last, b'0' + (number % 10) as u8)
+}
+
+/// Writes into a buffer from its first byte on, and answers how many bytes that takes. A buffer that is too short for it
+/// is left as it was, and the length needed is the error.
+pub fn fitted<F: Fn(&mut Page<'_>)>(out: &mut [u8], write: F) -> Result<usize, usize>
+    requires { F.IsAlwaysCallable write }
+    ensures within { IfOk result (λ n. n ≤ length out.old) }
+    ensures short { IfErr result (λ n. length out.old < n) }
+    ensures kept { OnErr result (out.new ≡ out.old) }
+{
+    let mut counted = Page::new(&mut []);
+    write(&mut counted);
+    let needed = counted.at;
+    if out.len() < needed {
+        return Err(needed);
+    }
+    write(&mut Page::new(out));
+    Ok(needed)
 }
 
 /// How many decimal digits a number has.
