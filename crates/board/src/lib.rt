@@ -3,7 +3,6 @@
 
 pub mod boards;
 pub mod load;
-pub mod notes;
 pub mod plan;
 pub mod step;
 pub mod trace;

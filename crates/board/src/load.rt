@@ -1,37 +1,35 @@
 //! Loading a drawing onto the board.
 use crate::boards::Board;
-use crate::notes::{Note, Noting};
-use crate::plan::Noted;
+use circuit::parts::Body;
 use circuit::wiring::Circuit;
 use drawing::reading::read;
-use ports::deed::Deed;
+use ports::memory::Memory;
 use refusal::kinds::Failure;
 use std::alloc::{AllocError, Global};
 use word::value::Word;
 
+/// The memories of a circuit, by ascending rank, with their first words and no notes.
+fn memories_of(heap: Global, circuit: &Circuit) -> Result<Vec<Memory>, AllocError> {
+    let mut memories = Vec::new(heap);
+    for (rank, part) in circuit.parts.iter().enumerate() {
+        if let Body::Memory { first, .. } = &part.body {
+            memories.push(Memory::new(heap, rank, first.as_slice())?)?;
+        }
+    }
+    Ok(memories)
+}
+
 impl Board {
     /// A board newly made of a circuit: at cycle 0 with its first words, every held word 0, and no notes.
     fn of_circuit(heap: Global, circuit: Circuit) -> Result<Board, AllocError> {
-        let count = circuit.bodies.len();
-        let words = Vec::from_slice(heap, circuit.first.as_slice())?;
-        let held = vec![in heap; Word::zero(); count]?;
-        let mut shown = vec![in heap; Word::zero(); count]?;
-        let notes = vec![in heap; Note::Silent; count]?;
-        let deeds = vec![in heap; Deed::Rest; count]?;
-        let noted = vec![in heap; Noted {
-            address: Word::zero(),
-            noting: Noting::Nothing
-        }; count]?;
-        circuit.settle(held.as_slice(), shown.as_mut_slice());
+        let mut shown = vec![in heap; Word::zero(); circuit.parts.len()]?;
+        let memories = memories_of(heap, &circuit)?;
+        circuit.settle(shown.as_mut_slice());
         Ok(Board {
             circuit,
             cycle: 0,
-            words,
-            held,
             shown,
-            notes,
-            deeds,
-            noted,
+            memories,
         })
     }
 
@@ -41,7 +39,7 @@ impl Board {
         let drawing = read(heap, text)?;
         let end = drawing.end;
         let board = Board::of_circuit(heap, drawing.circuit)?;
-        let count = board.circuit.bodies.len();
+        let count = board.circuit.parts.len();
         *self = board;
         Ok((count, end))
     }
