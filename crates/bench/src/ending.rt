@@ -1,10 +1,10 @@
 //! The last line of a run.
-use lines::{put, put_byte, put_number};
+use lines::Page;
 use refusal::kinds::{Fault, Refusal};
 use scan::names::Name;
 
 /// How a run ended.
-#[derive(Clone, Copy)]
+#[derive(Clone, Copy, Debug, PartialEq, Eq)]
 pub enum Ending {
     /// All cycles were done.
     Done(u32),
@@ -14,41 +14,33 @@ pub enum Ending {
     InCycle(Refusal, Name, u32),
 }
 
-/// Writes a place, which may be any number of the machine.
-fn put_place(out: &mut [u8], at: usize, place: usize) -> usize {
-    match u32::try_from(place) {
-        Ok(small) => put_number(out, at, small),
-        Err(_) => put_number(out, at, u32::MAX),
-    }
-}
-
 /// Writes `Refused` and the number of a refusal.
-fn put_refusal(out: &mut [u8], refusal: Refusal) -> usize {
-    let end = put(out, 0, b"Refused ");
-    put_number(out, end, refusal.number())
+fn put_refusal(page: &mut Page<'_>, refusal: Refusal) {
+    page.text(b"Refused ");
+    page.number(refusal.number());
 }
 
 impl Ending {
-    /// Writes the last line as far as the buffer goes, and answers its length.
-    pub(crate) fn write(self, out: &mut [u8]) -> usize {
-        let end = match self {
+    /// Writes the last line. A place that is past the numbers of 32 bits is written as the highest of them.
+    pub(crate) fn write(self, page: &mut Page<'_>) {
+        match self {
             Ending::Done(cycles) => {
-                let end = put(out, 0, b"Done ");
-                put_number(out, end, cycles)
+                page.text(b"Done ");
+                page.number(cycles);
             }
             Ending::AtByte(fault) => {
-                let end = put_refusal(out, fault.refusal);
-                let end = put(out, end, b" at byte ");
-                put_place(out, end, fault.place)
+                put_refusal(page, fault.refusal);
+                page.text(b" at byte ");
+                page.number(u32::try_from(fault.place).unwrap_or(u32::MAX));
             }
             Ending::InCycle(refusal, name, cycle) => {
-                let end = put_refusal(out, refusal);
-                let end = put(out, end, b" at ");
-                let end = put(out, end, name.as_bytes());
-                let end = put(out, end, b" in cycle ");
-                put_number(out, end, cycle)
+                put_refusal(page, refusal);
+                page.text(b" at ");
+                page.text(name.as_bytes());
+                page.text(b" in cycle ");
+                page.number(cycle);
             }
-        };
-        put_byte(out, end, b'\n')
+        }
+        page.byte(b'\n');
     }
 }
