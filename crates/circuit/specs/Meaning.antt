@@ -1,5 +1,5 @@
 -- What a circuit in storage means: the circuit that the verdict on a text speaks of.
-use Rattle.std.specs.Prelude.{ℕ, List, [], map, vec_items, slice_index_or, Vec}
+use Rattle.std.specs.Prelude.{ℕ, suc, ◌-◌, List, [], map, vec_items, slice_index_or, Vec}
 use Rattle.std.specs.declared.alloc.Global.{Global}
 use Rattle.scan.specs.Names.{Bytes}
 use Rattle.scan.specs.NameBytes.{name_bytes}
@@ -19,6 +19,11 @@ use Rattle.circuit.specs.declared.wiring.Circuit.{Circuit}
 abbrev pub item_by : {R S : Type 0} → (R → S) → StoredItem R → Item S
 item_by tell (Constant word width) = constant word.value width.bits
 item_by tell (Bits r range) = bits (tell r) range.first range.last
+
+-- how many bits an item has
+abbrev pub width_of : {R : Type 0} → StoredItem R → ℕ
+width_of (Constant word width) = width.bits
+width_of (Bits r range) = suc range.last - range.first
 
 -- an expression in storage
 abbrev pub StoredExpression : Type 0

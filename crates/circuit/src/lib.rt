@@ -1,4 +1,4 @@
-//! The circuit of a drawing in flat storage, and the values that its parts show.
+//! The circuit of a drawing with its parts, and the values that its parts show.
 #![tactic(auto)]
 
 pub mod parts;

@@ -1,9 +1,8 @@
 //! The values of expressions and parts, from the words that the parts show by rank.
 ghost use Rattle.std.specs.Prelude.{◌≡◌, length, nat_le};
 ghost use Rattle.std.specs.Option.{is_none};
-ghost use Rattle.verdict.specs.Items.{width};
 ghost use Rattle.verdict.specs.Values.{item_value};
-ghost use Rattle.circuit.specs.Meaning.{item_by};
+ghost use Rattle.circuit.specs.Meaning.{item_by, width_of};
 ghost use Rattle.circuit.specs.Worth.{shown_by, worth, is_astray};
 
 use crate::parts::{Body, Expression, Item, Part};
@@ -13,24 +12,26 @@ use word::value::Word;
 use word::width::Width;
 use word::widths::place;
 
-/// The word that a rank shows, and 0 past the last.
+/// The word that a rank shows, and 0 past the last, so that it asks nothing of its caller.
 fn shown_at(shown: &[Word], rank: usize) -> Word
     ensures { result.value ≡ shown_by shown.now rank }
 {
     shown.get(rank).copied().unwrap_or(Word::zero())
 }
 
-impl Item<usize> {
-    /// How many bits the item has.
-    fn width(self) -> Width
-        ensures { result.bits ≡ width (item_by (λ r. r) self) }
+impl<R> Item<R> {
+    /// How many bits the item has, whichever way it tells its part.
+    pub fn width(&self) -> Width
+        ensures { result.bits ≡ width_of self.now }
     {
         match self {
-            Item::Constant(_, width) => width,
+            Item::Constant(_, width) => *width,
             Item::Bits(_, range) => range.width(),
         }
     }
+}
 
+impl Item<usize> {
     /// The value of the item.
     fn value(self, shown: &[Word]) -> Word
         ensures { result.value ≡ item_value (shown_by shown.now) (item_by (λ r. r) self) }

@@ -1,8 +1,9 @@
 //! The parts that were read so far.
 ghost use Rattle.std.specs.Prelude.{◌≡◌, ◌≤◌};
+ghost use Rattle.scan.specs.NameBytes.{name_bytes};
 
 use circuit::parts::{Body, Item};
-use names::new_name;
+use names::{Named, Placed, new_name};
 use refusal::kinds::{Fault, Refusal};
 use scan::names::Name;
 use scan::reader::TextWord;
@@ -26,6 +27,22 @@ pub struct Drafted {
     pub name: Name,
     pub place: usize,
     pub body: Body<Field>,
+}
+
+impl Named for Drafted {
+    ghost label = { λ p. name_bytes p.name };
+
+    fn name(&self) -> &[u8] {
+        self.name.as_bytes()
+    }
+}
+
+impl Placed for Drafted {
+    ghost stands_at = { λ p. p.place };
+
+    fn place(&self) -> usize {
+        self.place
+    }
 }
 
 /// How much is taken of what a drawing may have at most.

@@ -2,49 +2,14 @@
 #![tactic(auto)]
 
 ghost use Rattle.std.specs.Prelude.{◌≡◌};
-ghost use Rattle.scan.specs.NameBytes.{name_bytes};
 ghost use Rattle.draft.specs.Drafts.{Blank};
 
-use names::{Named, Placed};
 use std::alloc::Global;
 
 pub mod drafts;
 pub mod entry;
 
-use drafts::{Draft, Drafted, MOST_ITEMS, MOST_WORDS, Room};
-use entry::Entry;
-
-impl Named for Drafted {
-    ghost label = { λ p. name_bytes p.name };
-
-    fn name(&self) -> &[u8] {
-        self.name.as_bytes()
-    }
-}
-
-impl Named for Entry {
-    ghost label = { λ e. name_bytes e.name };
-
-    fn name(&self) -> &[u8] {
-        self.name.as_bytes()
-    }
-}
-
-impl Placed for Drafted {
-    ghost stands_at = { λ p. p.place };
-
-    fn place(&self) -> usize {
-        self.place
-    }
-}
-
-impl Placed for Entry {
-    ghost stands_at = { λ e. e.place };
-
-    fn place(&self) -> usize {
-        self.place
-    }
-}
+use drafts::{Draft, MOST_ITEMS, MOST_WORDS, Room};
 
 impl Draft {
     /// No part is read yet.

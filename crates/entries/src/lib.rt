@@ -38,6 +38,7 @@ fn after_mark(text: &[u8]) -> &[u8] {
 /// The macros that a drawing defines: of the words of its first section, each two make one.
 fn defined<'t>(heap: Global, words: &[TextWord<'t>]) -> Result<Vec<Macro<'t>>, Failure> {
     let mut met: Vec<Macro<'t>> = Vec::new(heap);
+    // A loop, since each is judged beside those met.
     for pair in words.chunks(2) {
         if let Some(one) = defines(met.as_slice(), pair)? {
             met.push(one)?;
@@ -77,6 +78,7 @@ fn one_entry(met: &[Entry], word: TextWord<'_>) -> Result<Entry, Fault> {
 /// The list of a drawing.
 pub fn read_list(heap: Global, words: &[TextWord<'_>]) -> Result<Vec<Entry>, Failure> {
     let mut met = Vec::new(heap);
+    // A loop, since each is judged beside those met.
     for word in words {
         let one = one_entry(met.as_slice(), *word)?;
         met.push(one)?;

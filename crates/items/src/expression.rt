@@ -1,8 +1,7 @@
 //! An expression: items joined by commas.
-ghost use Rattle.std.specs.Prelude.{◌≡◌, ◌≤◌};
+ghost use Rattle.std.specs.Prelude.{◌≡◌};
 ghost use Rattle.numbers.specs.Answers.{judged_by, Placed};
-ghost use Rattle.verdict.specs.Items.{width, expression};
-ghost use Rattle.items.specs.Meaning.{item_of};
+ghost use Rattle.verdict.specs.Items.{expression};
 ghost use Rattle.items.specs.Told.{counted, Kept};
 
 use crate::item::{WORD_BITS, item};
@@ -11,17 +10,6 @@ use circuit::parts::Item;
 use numbers::pieces::Pieces;
 use refusal::kinds::{Failure, Fault, Refusal};
 use scan::names::Name;
-
-/// How many bits an item has: one or more.
-fn width_of(item: Item<Name>) -> u32
-    ensures value { result ≡ width (item_of item) }
-    ensures some { 1 ≤ result }
-{
-    match item {
-        Item::Constant(_, width) => width.bits,
-        Item::Bits(_, range) => range.width().bits,
-    }
-}
 
 /// How many items an expression has. Of all that is wrong in it the smallest number is answered, and then whether it has
 /// more than 31 bits.
@@ -37,7 +25,7 @@ pub fn judge(field: &[u8], place: usize) -> Result<usize, Fault>
     for piece in Pieces::new(field, b',') {
         match item(piece, place) {
             Ok(one) => {
-                bits = bits.saturating_add(width_of(one));
+                bits = bits.saturating_add(one.width().bits);
                 count = count.saturating_add(1);
             }
             Err(fault) => wrong.meet(fault),

@@ -24,7 +24,8 @@ pub const WORD_BITS: u32 = 31;
 /// The highest bit of a word.
 const HIGHEST_BIT: u32 = 30;
 
-// The readers of an item pass the place along, since the numbers in it answer faults with their place.
+// The readers of an item pass the place along: `number`, `binary` and `both` answer faults at a place, and refusals without
+// one would need a second `both`.
 
 /// A constant of the low `bits` bits of a word.
 fn constant(value: Word, bits: u32, place: usize) -> Result<Item<Name>, Fault>

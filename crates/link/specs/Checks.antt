@@ -37,7 +37,7 @@ uncircled d es = refuse_first 23 (on_circle (length (wired d es).parts) (needs (
 abbrev pub reads_part : List (Bytes × Body ℕ) → ℕ → ℕ → Bool
 reads_part ps i j = body_reads j (body_at ps i)
 
--- the checks are passed; the flat circuit means that of the parts and the list, and its order sets each part after all that it reads
+-- the checks are passed; the circuit means that of the parts and the list, and its order sets each part after all that it reads
 pub record Joined (d : Draft) (es : List Entry) (c : Circuit) : Type 0 where
   pub checked : named d es ≡ read tt
   pub no_circle : uncircled d es ≡ read tt

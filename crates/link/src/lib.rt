@@ -11,19 +11,25 @@ use refusal::kinds::{Failure, Fault, Refusal};
 use scan::names::Name;
 use std::alloc::{AllocError, Global};
 
-/// Refuses the first name in a field that no part has.
-fn check_field(field: &Field, parts: &[&Drafted]) -> Result<(), Fault> {
-    for item in field.items.as_slice() {
-        if let Item::Bits(name, _) = item {
-            if find(parts, name.as_bytes()).is_none() {
-                return Err(Refusal::NoSuchPart.at(field.place));
-            }
-        }
+/// Whether the item names no part that is missing.
+fn is_there(item: &Item<Name>, parts: &[&Drafted]) -> bool {
+    match item {
+        Item::Constant(_, _) => true,
+        Item::Bits(name, _) => find(parts, name.as_bytes()).is_some(),
     }
-    Ok(())
 }
 
-/// Refuses the first name in the fields of a part that no part has.
+/// Refuses a field with a name that no part has.
+fn check_field(field: &Field, parts: &[&Drafted]) -> Result<(), Fault> {
+    if field.items.iter().all(|item| is_there(item, parts)) {
+        Ok(())
+    } else {
+        Err(Refusal::NoSuchPart.at(field.place))
+    }
+}
+
+/// Refuses the first name in the fields of a part that no part has. The fields are named here and in `link_part`, since a memory's
+/// are checked and do not link.
 fn check_body(body: &Body<Field>, parts: &[&Drafted]) -> Result<(), Fault> {
     match body {
         Body::Memory {
@@ -64,7 +70,7 @@ pub fn check_references(drafted: &[Drafted], parts: &[&Drafted]) -> Result<(), F
 }
 
 /// The rank of a name among parts that stand by name. Each name was checked before, so one that none has, which would get
-/// the number of parts, does not occur.
+/// the number of parts, does not occur; an `Option` would need a branch that gives up.
 fn rank_of(parts: &[&Drafted], name: &Name) -> usize {
     find(parts, name.as_bytes()).unwrap_or(parts.len())
 }
@@ -123,16 +129,20 @@ fn ranked_body(
     }
 }
 
+/// A part with parts told by rank.
+fn ranked_part(heap: Global, part: &Drafted, parts: &[&Drafted]) -> Result<Part, AllocError> {
+    Ok(Part {
+        name: part.name,
+        body: ranked_body(heap, &part.body, parts)?,
+    })
+}
+
 /// The parts of a circuit, of parts that stand by name.
 fn ranked_parts(heap: Global, parts: &[&Drafted]) -> Result<Vec<Part>, AllocError> {
-    let mut all = Vec::new(heap);
-    for part in parts {
-        all.push(Part {
-            name: part.name,
-            body: ranked_body(heap, &part.body, parts)?,
-        })?;
-    }
-    Ok(all)
+    parts
+        .iter()
+        .map(|part| ranked_part(heap, part, parts))
+        .try_collect(heap)
 }
 
 /// The list with parts told by rank.

@@ -4,7 +4,8 @@ ghost use Rattle.std.specs.Prelude.{◌≡◌, ℕ, ◌<◌, ◌≤◌, [], leng
 /// How many nodes there are at most.
 pub(crate) const MOST_NODES: usize = 64;
 
-/// Which of `count` nodes needs which: row a says at b whether a needs b.
+/// Which of `count` nodes needs which: row a says at b whether a needs b. Room for the most nodes, since making one never
+/// wants memory.
 #[derive(Clone, Copy, Debug, PartialEq, Eq)]
 pub struct Links {
     pub(crate) count: usize,

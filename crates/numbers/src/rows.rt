@@ -42,7 +42,7 @@ impl Base {
     }
 }
 
-/// The value of a digit, A to F for 10 to 15.
+/// The value of a digit, A to F for 10 to 15. The library's `to_digit` takes small letters too.
 fn digit(byte: u8) -> Option<u32>
     ensures { result ≡ digit_in 16 byte }
 {
@@ -55,6 +55,7 @@ fn digit(byte: u8) -> Option<u32>
 
 /// What a row of digits says in the base, or nothing once that is more than 32 bits hold. No digit
 /// at all, or a byte that is no digit of the base, is malformed.
+// This and what stands on it fail in one way alone; a type for that would turn into a refusal at once.
 #[tactic(auto, using(crate::proofs::Caps::none_read, crate::proofs::Caps::more, crate::proofs::Caps::no_digit, crate::proofs::Caps::all_read))]
 pub(crate) fn row(text: &[u8], base: Base) -> Result<Option<u32>, Refusal>
     ensures judged { unplaced told result ≡ capped (digits (size base) text.now) }

@@ -33,8 +33,17 @@ enum Size {
     Given(usize),
 }
 
+impl Size {
+    /// How many words it is.
+    fn count(self) -> usize {
+        match self {
+            Size::Zeros(count) | Size::Given(count) => count,
+        }
+    }
+}
+
 /// The words of one part that are still to be read, and what follows them.
-#[derive(Clone, Copy)]
+#[derive(Clone, Copy, Debug, PartialEq, Eq)]
 pub struct PartWords<'w, 't> {
     pub words: &'w [TextWord<'t>],
     pub next: Next,
@@ -130,11 +139,11 @@ impl<'t> PartReader<'t> {
     }
 
     /// Reads one part and keeps it.
-    pub fn read(&mut self, draft: &mut Draft, words: PartWords<'_, '_>) -> Result<(), Failure> {
-        let mut words = words;
+    pub fn read(&mut self, draft: &mut Draft, mut words: PartWords<'_, '_>) -> Result<(), Failure> {
         let kind = kind_of(words.take()?)?;
         let word = words.take()?;
         let name = draft.name(word)?;
+        // Three kinds, each known by its name: a table of readers would say no more.
         let body = match kind {
             Kind::Alu => self.alu(draft, words)?,
             Kind::Selector => self.selector(draft, words)?,
@@ -224,21 +233,18 @@ impl<'t> PartReader<'t> {
     ) -> Result<Vec<Word>, Failure> {
         let word = words.take()?;
         self.fill(word)?;
-        match size_of(self.field.as_slice(), word.place)? {
-            Size::Zeros(count) => {
-                draft.words.claim(count, word.place)?;
-                Ok(vec![in self.heap; Word::zero(); count]?)
-            }
-            Size::Given(count) => {
-                draft.words.claim(count, word.place)?;
-                self.given(words, count)
-            }
+        let size = size_of(self.field.as_slice(), word.place)?;
+        draft.words.claim(size.count(), word.place)?;
+        match size {
+            Size::Zeros(count) => Ok(vec![in self.heap; Word::zero(); count]?),
+            Size::Given(count) => self.given(words, count),
         }
     }
 
     /// So many words that stand in the text.
     fn given(&mut self, words: &mut PartWords<'_, '_>, count: usize) -> Result<Vec<Word>, Failure> {
         let mut first = Vec::new(self.heap);
+        // The loop counts words that may be missing, and walks no list.
         for _ in 0..count {
             let word = words.take()?;
             self.fill(word)?;

@@ -14,7 +14,8 @@ ghost use Rattle.sections.specs.Walks.{marked, macro_count, PartUpTo};
 use refusal::kinds::{Fault, Refusal};
 use scan::reader::TextWord;
 
-/// What follows a row of words: a word at a place, or the end of the text, at its length.
+/// What follows a row of words: a word at a place, or the end of the text, at its length. Neither is an error: what is lacking
+/// before it decides.
 #[derive(Clone, Copy, Debug, PartialEq, Eq)]
 pub enum Next {
     Word(usize),
@@ -46,7 +47,7 @@ impl Next {
 }
 
 /// The words up to a stop, what follows them, and the words after the stop.
-#[derive(Clone, Copy)]
+#[derive(Clone, Copy, Debug, PartialEq, Eq)]
 pub struct Row<'w, 't> {
     pub row: &'w [TextWord<'t>],
     pub next: Next,
@@ -54,7 +55,7 @@ pub struct Row<'w, 't> {
 }
 
 /// The sections of a text. Of the macros, each has two words, but the last may lack its second.
-#[derive(Clone, Copy)]
+#[derive(Clone, Copy, Debug, PartialEq, Eq)]
 pub struct Sections<'w, 't> {
     pub macros: &'w [TextWord<'t>],
     pub listed: &'w [TextWord<'t>],

@@ -35,7 +35,7 @@ impl Word {
     }
 }
 
-/// The word 0.
+/// The word 0. By hand, since a type with an invariant derives no default.
 impl Default for Word {
     ghost is_default = { λ word. word.value ≡ 0 };
 

@@ -34,14 +34,14 @@ impl Name {
         self.text.as_str().as_bytes()
     }
 
-    /// Whether the two have the same bytes.
+    /// Whether the two have the same bytes: `==`, told of the bytes.
     pub fn is_same(&self, other: &Name) -> bool
         ensures { result ≡ same (name_bytes self.now) (name_bytes other.now) }
     {
         self == other
     }
 
-    /// Whether this one comes before the other.
+    /// Whether this one comes before the other: `<`, told of the bytes.
     #[tactic(auto, using(crate::proofs::NameOrder::text_before))]
     pub fn is_before(&self, other: &Name) -> bool
         ensures { result ≡ before (name_bytes self.now) (name_bytes other.now) }
