@@ -10,10 +10,11 @@ ghost use Rattle.graph.specs.declared.OrderFault.TheVariants.{Memory};
 
 mod ranks;
 mod reach;
+mod rows;
 mod systems;
 
-use ranks::{by_rank, ranks_of};
-use reach::{first_on_circle, reached};
+use ranks::by_rank;
+use reach::reached;
 use std::alloc::{AllocError, AllocFailed, Global};
 pub use systems::{System, solve};
 
@@ -75,10 +76,9 @@ pub fn order<G: Graph>(heap: Global, g: &G) -> Result<Vec<usize>, OrderFault>
     ensures { Answered (G.size g.now) (G.wants g.now) result }
 {
     let rows = reached(heap, g)?;
-    let reach = rows.as_slice();
-    if let Some(a) = first_on_circle(reach) {
+    if let Some(a) = rows.first_on_circle() {
         return Err(OrderFault::Circle(a));
     }
-    let ranks = ranks_of(heap, reach)?;
+    let ranks = rows.ranks(heap)?;
     Ok(by_rank(heap, ranks.as_slice())?)
 }

@@ -5,4 +5,4 @@ use Rattle.graph.specs.Reach.{reaches}
 use Rattle.graph.proofs.reach.reached.Given as goal
 
 abbrev pub invariant-loop-k : goal.invariant-loop-k
-invariant-loop-k g l = bits (vec_items l.rows) ≡ grid (g.G.Graph.size l.g) (reaches (g.G.Graph.wants l.g) l.k)
+invariant-loop-k g l = bits (vec_items l.rows.rows) ≡ grid (g.G.Graph.size l.g) (reaches (g.G.Graph.wants l.g) l.k)

@@ -4,7 +4,7 @@ use Rattle.std.specs.List.{zip}
 use Rattle.std.proofs.lemmas.Iterator.{items_from_collect, YieldsList-from_map, YieldsList-from_zip, YieldsList-from_slice}
 use Rattle.std.proofs.lemmas.Result.{IfOk-weaker}
 use Rattle.graph.proofs.Grids.{row_joined}
-use Rattle.graph.proofs.reach.next_row.Goals as goal
+use Rattle.graph.proofs.rows.next_row.Goals as goal
 
 pub returns : goal.returns
 returns c =
