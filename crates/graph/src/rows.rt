@@ -49,20 +49,15 @@ impl Rows {
         Ok(Rows { rows })
     }
 
-    /// Whether node `a` reaches itself.
-    fn reaches_itself(&self, a: usize) -> bool
-        requires { a < length self.now.rows.items }
-        ensures { result ≡ cell (bits self.now.rows.items) a a }
-    {
-        self.rows[a][a]
-    }
-
     /// The first node that reaches itself.
     pub(crate) fn first_on_circle(&self) -> Option<usize>
         ensures found { IfSome result (λ a. (a < length self.now.rows.items) × (cell (bits self.now.rows.items) a a ≡ true)) }
         ensures before { (b : ℕ) → b < unwrap_or result (length self.now.rows.items) → cell (bits self.now.rows.items) b b ≡ false }
     {
-        (0..self.rows.len()).find(|a| self.reaches_itself(*a))
+        self.rows
+            .iter()
+            .enumerate()
+            .position(|(a, row)| row[a])
     }
 
     /// The rank of each node: how many are true in its row.
