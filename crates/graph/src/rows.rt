@@ -40,6 +40,7 @@ impl Rows {
         ensures { IfOk result (λ v. bits v.rows.items ≡ grid (length self.now.rows.items) (through (cell (bits self.now.rows.items)) k)) }
     {
         let via = self.rows[k].as_slice();
+        // Tried: one closure with both calls; the proof did not close without an `ensures` on it, so two maps are plainer.
         let rows = self
             .rows
             .iter()
@@ -54,10 +55,7 @@ impl Rows {
         ensures found { IfSome result (λ a. (a < length self.now.rows.items) × (cell (bits self.now.rows.items) a a ≡ true)) }
         ensures before { (b : ℕ) → b < unwrap_or result (length self.now.rows.items) → cell (bits self.now.rows.items) b b ≡ false }
     {
-        self.rows
-            .iter()
-            .enumerate()
-            .position(|(a, row)| row[a])
+        self.rows.iter().enumerate().position(|(a, row)| row[a])
     }
 
     /// The rank of each node: how many are true in its row.
