@@ -40,7 +40,7 @@ impl Rows {
         ensures { IfOk result (λ v. bits v.rows.items ≡ grid (length self.now.rows.items) (through (cell (bits self.now.rows.items)) k)) }
     {
         let via = self.rows[k].as_slice();
-        // Tried: one closure with both calls; the proof did not close without an `ensures` on it, so two maps are plainer.
+        // Tried: one closure with both calls; the proof did not close.
         let rows = self
             .rows
             .iter()
