@@ -1,5 +1,5 @@
 -- Why a buffer that took a field with all uses put in holds what the field is judged to be: the judgement looks at its first 1,024 bytes.
-use Rattle.std.proofs.Common.{◌≡◌, ℕ, zero, suc, ◌<◌, ◌≤◌, Bool, true, false, cond, ltb, leb, List, [], ◌∷◌, ◌++◌, map, length, take, Ok, Err, Result, sym, refl, ap, ◌∙◌, ⊎_elim, arith}
+use Rattle.std.proofs.Common.{◌≡◌, ℕ, zero, suc, ◌<◌, ◌≤◌, Bool, true, false, cond, ltb, leb, List, [], ◌∷◌, map, length, take, Ok, Err, Result, sym, refl, ap, ◌∙◌, ⊎_elim, arith}
 use Rattle.std.proofs.lemmas.List.{take_all, length-take-le}
 use Rattle.std.proofs.lemmas.Bool.{and_parts, and_from, or_cases, le-leb, lt-leb, lt-ltb, false≢true, both_ways}
 use Rattle.refusal.specs.Numbers.{number}
@@ -70,8 +70,3 @@ module _ (t : Table) (w : Bytes) (known : all_known (names_of t) w ≡ true) whe
   filled_from place holds (Ok u) h = fits h.1 ∙ ap good (sym h.0)
   filled_from place holds (Err (Refused f)) h = (too_long h.1 ∙ ap (λ g. bad (number g.refusal)) (sym h.0), ap (λ g. g.place) h.0)
   filled_from place holds (Err NoMemory) h = tt
-
-pub wrote_short : (place : ℕ) (held holds more : Bytes) (r : Result Unit Failure) → Wrote place held holds more r → length holds ≤ 1023
-wrote_short place held holds more (Ok u) h = omega (arith, ap length h.0, h.1)
-wrote_short place held holds more (Err (Refused f)) h = omega (arith, ap length h.2, length-take-le 1023 (held ++ more) (omega (arith, h.1)))
-wrote_short place held holds more (Err NoMemory) h = h

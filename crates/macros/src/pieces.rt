@@ -7,7 +7,7 @@ ghost use Rattle.std.specs.Iterator.{YieldsFirstBy, item_count};
 use crate::uses::used_name;
 
 /// One piece of a text.
-#[derive(Clone, Copy)]
+#[derive(Clone, Copy, Debug, PartialEq, Eq)]
 pub(crate) enum TextPiece<'t> {
     /// A byte that stands for itself.
     Plain(u8),
@@ -16,7 +16,7 @@ pub(crate) enum TextPiece<'t> {
 }
 
 /// Hands out the pieces of a text, the first piece first.
-#[derive(Clone, Copy)]
+#[derive(Clone, Copy, Debug, PartialEq, Eq)]
 pub(crate) struct TextPieces<'t> {
     /// What is not handed out yet.
     rest: &'t [u8],

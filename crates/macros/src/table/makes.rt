@@ -19,6 +19,7 @@ const MOST_MACROS: usize = 64;
 fn check_known(table: &[Macro<'_>]) -> Result<(), Fault>
     ensures { told result ≡ refuse_first 18 (unknowns (entries table.now)) (places_of table.now) }
 {
+    // No call of `check_named`: that tests the name of each, and this the text.
     if let Some(one) = table.iter().find(|one| !all_known(table, one.text)) {
         return Err(Refusal::UnknownMacro.at(one.place));
     }
