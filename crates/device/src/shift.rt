@@ -23,6 +23,7 @@ impl<D> Shift<D> {
     }
 }
 
+// Each method takes `by` from the port and hands the call on; a closure for the call that differs would be longer.
 impl<D: Device> Device for Shift<D> {
     ghost meaning = { λ s. shifted s.by (D.Device.meaning s.below) };
 

@@ -25,6 +25,7 @@ impl<D, E> Split<D, E> {
     }
 }
 
+// Each method is one `if`; a closure for the call that differs would be longer.
 impl<D: Device, E: Device> Device for Split<D, E> {
     ghost meaning = { λ s. joined s.at (D.Device.meaning s.low) (E.Device.meaning s.high) };
 

@@ -43,6 +43,7 @@ impl<const N: usize> Taken<N> {
     pub fn copied(&self) -> Taken<N>
         ensures { result ≡ self.now }
     {
+        // The library's `clone` of an `ArrayVec` answers a `Result`, and this can't fail.
         Taken {
             words: ArrayVec::try_from(&self.words[..]).unwrap_or_default(),
         }

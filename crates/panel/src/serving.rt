@@ -6,6 +6,7 @@ use device::Device;
 use refusal::kinds::Fault;
 use word::value::Word;
 
+// The row of ports does it; these hand each call on, as Rust has no other way to forward a trait.
 impl Device for Panel {
     ghost meaning = { panel_meaning };
 

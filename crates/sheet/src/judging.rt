@@ -10,6 +10,7 @@ use numbers::number;
 use refusal::kinds::{Fault, Refusal};
 use scan::reader::{Reader, TextWord};
 use word::value::Word;
+use word::words::LARGEST;
 
 /// The most cycles that a sheet may ask for.
 const MOST_CYCLES: u32 = 100_000;
@@ -35,13 +36,6 @@ fn next_word<'t>(reader: &mut Reader<'t>) -> Result<TextWord<'t>, Fault>
         .ok_or(Refusal::BadSheet.at(reader.text().len()))
 }
 
-/// The number that a word of the sheet is.
-fn number_in(word: TextWord<'_>) -> Result<Word, Fault>
-    ensures { valued result ≡ number_of 2147483647 (word_of word.entry) }
-{
-    number(word.text, word.place).map_err(|_| Refusal::BadSheet.at(word.place))
-}
-
 /// The number that a word of the sheet is, which must be at most `most`.
 fn limited(word: TextWord<'_>, most: u32) -> Result<Word, Fault>
     ensures { valued result ≡ number_of most (word_of word.entry) }
@@ -60,7 +54,7 @@ fn check_pairs(mut reader: Reader<'_>) -> Result<(), Fault>
     // Each turn takes two words, so no `for` over the reader will do.
     while let Some(port) = reader.next() {
         limited(port, LAST_PORT)?;
-        number_in(next_word(&mut reader)?)?;
+        limited(next_word(&mut reader)?, LARGEST)?;
     }
     Ok(())
 }

@@ -51,7 +51,7 @@ impl<'t> Iterator for Waiting<'t> {
 
     /// The next word for the port, if one is left.
     fn next(&mut self) -> Option<Word> {
-        // a loop, since each step takes two words: no chain's proof goes through a closure that moves the reader on
+        // A loop, since each step takes two words: no chain's proof goes through a closure that moves the reader on
         while let Some(to) = self.reader.next() {
             let second = self.reader.next()?;
             if let Some(word) = sent(to, second, self.port) {

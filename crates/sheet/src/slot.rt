@@ -11,6 +11,7 @@ pub(crate) mod serves;
 #[derive(Debug, Drop)]
 pub(crate) struct Slot<'t> {
     words: Waiting<'t>,
+    // Kept beside the words, since counting them reads the whole text, and a board asks at each step.
     waiting: u32,
     taken: Taken<16>,
     ghost right: { waiting ≡ length (waits words) },

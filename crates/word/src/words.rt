@@ -4,7 +4,7 @@ ghost use Rattle.std.specs.Prelude.{◌≡◌, ◌%◌, ◌^◌, ◌≤◌, Matc
 use crate::value::Word;
 
 /// The largest value of a word, in which each of the 31 bits is 1.
-const LARGEST: u32 = 0x7fff_ffff;
+pub const LARGEST: u32 = 0x7fff_ffff;
 
 impl Word {
     /// The word of a value, unless that is 2 to the power 31 or more.
