@@ -6,6 +6,7 @@ ghost use Rattle.sheet.specs.Sheets.{number_of, pairs};
 ghost use Rattle.sheet.specs.Nexts.{HandsOver};
 ghost use Rattle.sheet.specs.Judged.{asked, verdict};
 
+use crate::short::ShortText;
 use numbers::number;
 use refusal::kinds::{Fault, Refusal};
 use scan::reader::{Reader, TextWord};
@@ -65,10 +66,8 @@ fn check_pairs(mut reader: Reader<'_>) -> Result<(), Fault>
 pub fn judge(text: &[u8], from: usize) -> Result<Run, Fault>
     ensures { asked text.now result ≡ verdict text.now from }
 {
-    if text.len() > u32::MAX as usize {
-        return Err(Refusal::TextTooLong.at(0));
-    }
-    let mut reader = Reader::new(text, from);
+    let short = ShortText::new(text).ok_or(Refusal::TextTooLong.at(0))?;
+    let mut reader = Reader::new(short.bytes, from);
     let count = next_word(&mut reader)?;
     let cycles = limited(count, MOST_CYCLES)?;
     check_pairs(reader)?;

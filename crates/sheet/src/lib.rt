@@ -8,6 +8,7 @@ pub mod judging;
 pub mod opening;
 mod pairs;
 pub mod serving;
+mod short;
 mod slot;
 
 use arrayvec::ArrayVec;

@@ -1,5 +1,5 @@
 //! A new sheet, and what it has taken.
-ghost use Rattle.std.specs.Prelude.{◌≡◌, ◌^◌, ◌<◌, length};
+ghost use Rattle.std.specs.Prelude.{◌≡◌, ◌<◌};
 ghost use Rattle.scan.specs.Words.{words_after};
 ghost use Rattle.device.specs.Kept.{kept};
 ghost use Rattle.sheet.specs.Slots.{slot_meaning, fresh};
@@ -7,6 +7,7 @@ ghost use Rattle.sheet.specs.Meant.{sheet_meaning, fresh_sheet, read};
 ghost use Rattle.sheet.specs.Stands.{SheetStands};
 
 use crate::Sheet;
+use crate::short::ShortText;
 use crate::slot::Slot;
 use arrayvec::ArrayVec;
 use device::taken::Taken;
@@ -14,13 +15,12 @@ use std::array;
 
 impl<'t> Sheet<'t> {
     /// The sheet of a text that is short enough.
-    fn over(text: &'t [u8], from: usize) -> Sheet<'t>
-        requires { length text.now < 2 ^ 32 }
-        ensures { sheet_meaning result ≡ fresh_sheet (words_after text.now from) }
+    fn over(text: ShortText<'t>, from: usize) -> Sheet<'t>
+        ensures { sheet_meaning result ≡ fresh_sheet (words_after text.entry.bytes.now from) }
     {
         let open = |port: usize|
-            requires { (length text.now < 2 ^ 32) × (port < 16) }
-            ensures { slot_meaning result ≡ fresh (words_after text.entry.now from) port }
+            requires { port < 16 }
+            ensures { slot_meaning result ≡ fresh (words_after text.entry.bytes.now from) port }
         { Slot::new(text, from, port as u32) };
         Sheet {
             slots: ArrayVec::from(array::from_fn(open)),
@@ -32,10 +32,9 @@ impl<'t> Sheet<'t> {
     pub fn new(text: &'t [u8], from: usize) -> Sheet<'t>
         ensures { sheet_meaning result ≡ fresh_sheet (read text.now from) }
     {
-        if text.len() > u32::MAX as usize {
-            Sheet::over(&[], 0)
-        } else {
-            Sheet::over(text, from)
+        match ShortText::new(text) {
+            Some(short) => Sheet::over(short, from),
+            None => Sheet::over(ShortText::empty(), 0),
         }
     }
 

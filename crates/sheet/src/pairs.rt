@@ -1,5 +1,5 @@
 //! The words that the pairs of a run sheet have for one port.
-ghost use Rattle.std.specs.Prelude.{◌≡◌, ◌^◌, ◌<◌, length};
+ghost use Rattle.std.specs.Prelude.{◌≡◌, length};
 ghost use Rattle.std.specs.Iterator.{YieldsFirstBy, item_count};
 ghost use Rattle.std.specs.Option.{option_map};
 ghost use Rattle.scan.specs.Words.{words_after};
@@ -7,6 +7,7 @@ ghost use Rattle.numbers.specs.Numbers.{number};
 ghost use Rattle.sheet.specs.Waiting.{sent, waiting_at};
 ghost use Rattle.sheet.specs.Waits.{waits};
 
+use crate::short::ShortText;
 use numbers::number;
 use scan::reader::{Reader, TextWord};
 use word::value::Word;
@@ -64,9 +65,8 @@ impl<'t> Iterator for Waiting<'t> {
 
 /// How many words the pairs from the place `from` on have for `port`.
 #[tactic(auto, using(crate::proofs::Bounds::fits))]
-pub(crate) fn count(text: &[u8], from: usize, port: u32) -> u32
-    requires { length text.now < 2 ^ 32 }
-    ensures { result ≡ length (waiting_at port (words_after text.now from)) }
+pub(crate) fn count(text: ShortText<'_>, from: usize, port: u32) -> u32
+    ensures { result ≡ length (waiting_at port (words_after text.entry.bytes.now from)) }
 {
-    Waiting::new(text, from, port).count() as u32
+    Waiting::new(text.bytes, from, port).count() as u32
 }

@@ -1,10 +1,11 @@
 //! The start of a port of the sheet, and what it answers.
-ghost use Rattle.std.specs.Prelude.{◌≡◌, ◌^◌, ◌<◌, length};
+ghost use Rattle.std.specs.Prelude.{◌≡◌};
 ghost use Rattle.scan.specs.Words.{words_after};
 ghost use Rattle.device.specs.Kept.{kept};
 ghost use Rattle.sheet.specs.Slots.{slot_meaning, fresh};
 
 use crate::pairs::{Waiting, count};
+use crate::short::ShortText;
 use crate::slot::Slot;
 use device::row::Port;
 use device::taken::Taken;
@@ -13,12 +14,11 @@ use word::value::Word;
 
 impl<'t> Slot<'t> {
     /// The port of this number, where all that the text has for it from the place `from` on waits.
-    pub(crate) fn new(text: &'t [u8], from: usize, port: u32) -> Slot<'t>
-        requires { length text.now < 2 ^ 32 }
-        ensures { slot_meaning result ≡ fresh (words_after text.now from) port }
+    pub(crate) fn new(text: ShortText<'t>, from: usize, port: u32) -> Slot<'t>
+        ensures { slot_meaning result ≡ fresh (words_after text.entry.bytes.now from) port }
     {
         Slot {
-            words: Waiting::new(text, from, port),
+            words: Waiting::new(text.bytes, from, port),
             waiting: count(text, from, port),
             taken: Taken::new(),
         }
