@@ -3,13 +3,17 @@
 #![tactic(auto)]
 
 ghost use Rattle.std.specs.Prelude.{◌<◌, length, IfSome};
+ghost use Rattle.std.specs.Iterator.{at_most};
 
 use bench::transcript::Bench;
 use numbers::number;
 use std::io::{BufWriter, Read, Write};
 
+/// How many cases there are at most.
+const MOST_CASES: usize = 100_000;
+
 /// One case, and the bytes after it.
-#[derive(Clone, Copy)]
+#[derive(Clone, Copy, Debug, PartialEq, Eq)]
 struct Case<'a> {
     name: &'a [u8],
     input: &'a [u8],
@@ -41,6 +45,25 @@ fn first_case(text: &[u8]) -> Option<Case<'_>>
     })
 }
 
+/// The cases of a text, one after the other.
+#[derive(Clone, Copy, Debug, PartialEq, Eq)]
+struct Cases<'a> {
+    /// What is not handed out yet.
+    later: &'a [u8],
+}
+
+impl<'a> Iterator for Cases<'a> {
+    type Item = Case<'a>;
+
+    ghost remaining = { λ s. at_most (length s.later.now) };
+
+    fn next(&mut self) -> Option<Case<'a>> {
+        let case = first_case(self.later)?;
+        self.later = case.later;
+        Some(case)
+    }
+}
+
 /// Prints the name of a case and all lines of its run.
 fn run_case<W: Write>(rt: &HostRuntime, case: Case<'_>, out: &mut W) -> anyhow::Result<()> {
     out.write_all(case.name)?;
@@ -53,10 +76,11 @@ fn run(rt: &HostRuntime) -> anyhow::Result<()> {
     let mut text = Vec::new(rt.alloc());
     rt.stdin().read_to_end(&mut text)?;
     let mut out = BufWriter::new(rt.alloc(), rt.stdout())?;
-    let mut later = text.as_slice();
-    while let Some(case) = first_case(later) {
+    let cases = Cases {
+        later: text.as_slice(),
+    };
+    for case in cases.take(MOST_CASES) {
         run_case(rt, case, &mut out)?;
-        later = case.later;
     }
     out.flush()?;
     Ok(())
