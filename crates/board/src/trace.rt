@@ -1,5 +1,4 @@
-//! The board's line and notes, written into a lent buffer. They are written piece by piece onto a page and not by formats,
-//! as names are bytes, and the lines of a run take much of its time.
+//! The board's line and notes, written piece by piece onto a page over a lent buffer.
 ghost use Rattle.std.specs.Prelude.{◌≡◌, ◌≤◌, length, IfOk, OnErr};
 
 use crate::boards::Board;
