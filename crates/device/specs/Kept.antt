@@ -1,6 +1,5 @@
 -- What a port's storage of taken words holds.
-use Rattle.std.specs.Prelude.{ℕ, ◌-◌, List, map}
-use Rattle.arrayvec.specs.ArrayVec.{array_vec_len}
+use Rattle.std.specs.Prelude.{ℕ, ◌-◌, List, map, take}
 use Rattle.word.specs.declared.value.Word.{Word}
 use Rattle.device.specs.declared.taken.Taken.{Taken}
 
@@ -10,8 +9,8 @@ values = map (λ w. w.value)
 
 -- the words taken, the last of them last
 abbrev pub kept : (n : ℕ) → Taken n → List ℕ
-kept n t = values t.words.items
+kept n t = values (take t.count t.words)
 
 -- for how many more there is space
 abbrev pub room : (n : ℕ) → Taken n → ℕ
-room n t = n - array_vec_len t.words
+room n t = n - t.count
