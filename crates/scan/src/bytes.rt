@@ -33,7 +33,7 @@ pub fn is_name(text: &[u8]) -> bool
 {
     match text {
         [first, rest @ ..] => {
-            is_letter(*first) && are_letters_or_digits(rest) && text.len() <= NAME_BYTES
+            text.len() <= NAME_BYTES && is_letter(*first) && are_letters_or_digits(rest)
         }
         [] => false,
     }
