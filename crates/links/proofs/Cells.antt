@@ -7,11 +7,15 @@ use Rattle.std.proofs.lemmas.List.{length-replicate, get_or-set_same, get_or-set
 abbrev pub cell : List (List Bool) → ℕ → ℕ → Bool
 cell g a b = get_or (get_or g a []) b false
 
+-- a row of one value has that value at every place
+pub get_or_of_one : (n i : ℕ) (x : Bool) → get_or (replicate n x) i x ≡ x
+get_or_of_one zero i x = refl
+get_or_of_one (suc n) zero x = refl
+get_or_of_one (suc n) (suc i) x = get_or_of_one n i x
+
 -- where nothing was set
 none_set : (n i : ℕ) → get_or (replicate n false) i false ≡ false
-none_set zero i = refl
-none_set (suc n) zero = refl
-none_set (suc n) (suc i) = none_set n i
+none_set n i = get_or_of_one n i false
 
 pub cells_of_one : (m n a b : ℕ) → cell (replicate m (replicate n false)) a b ≡ false
 cells_of_one zero n a b = refl
