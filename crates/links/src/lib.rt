@@ -22,6 +22,7 @@ impl Links {
     }
 
     /// Lets node `a` need node `b`, if both are there.
+    #[tactic(auto, using(crate::proofs::Cells::cell_set))]
     pub fn add(&mut self, a: usize, b: usize)
         ensures nodes { nodes self.new ≡ nodes self.old }
         ensures arcs { Added self.old a b self.new }
