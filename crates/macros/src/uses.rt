@@ -72,6 +72,7 @@ pub fn macro_of(table: &[Macro<'_>], used: &[u8]) -> Option<usize>
 }
 
 /// Whether the piece is no use of a macro that the table lacks.
+#[tactic(auto, using(crate::proofs::Known::asked))]
 fn is_known(piece: TextPiece<'_>, table: &[Macro<'_>]) -> bool
     ensures { result ≡ is_known (names_of (entries table.now)) (meant piece.entry) }
 {
