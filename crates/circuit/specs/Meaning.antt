@@ -1,5 +1,5 @@
 -- What a circuit in storage means: the circuit that the verdict on a text speaks of.
-use Rattle.std.specs.Prelude.{ℕ, suc, ◌-◌, List, [], map, vec_items, slice_index_or, Vec}
+use Rattle.std.specs.Prelude.{ℕ, suc, ◌-◌, List, [], ◌∷◌, map, vec_items, slice_index_or, Vec}
 use Rattle.std.specs.declared.alloc.Global.{Global}
 use Rattle.scan.specs.Names.{Bytes}
 use Rattle.scan.specs.NameBytes.{name_bytes}
@@ -9,6 +9,8 @@ use Rattle.verdict.specs.Parts.{Body, alu, selector, memory}
 use Rattle.verdict.specs.Circuit as verdict
 use Rattle.circuit.specs.declared.parts.Item.{Item as StoredItem}
 use Rattle.circuit.specs.declared.parts.Item.TheVariants.{Constant, Bits}
+use Rattle.circuit.specs.declared.parts.Items.{Items as StoredItems}
+use Rattle.circuit.specs.declared.parts.Items.TheVariants.{One, More}
 use Rattle.circuit.specs.declared.parts.Body.{Body as StoredBody}
 use Rattle.circuit.specs.declared.parts.Body.TheVariants.{Alu, Selector, Memory}
 use Rattle.circuit.specs.declared.parts.Listed.{Listed}
@@ -25,22 +27,31 @@ abbrev pub width_of : {R : Type 0} → StoredItem R → ℕ
 width_of (Constant word width) = width.bits
 width_of (Bits r range) = suc range.last - range.first
 
+-- the items in storage, the highest first
+abbrev pub listed : {R : Type 0} → StoredItems R → List (StoredItem R)
+listed (One i) = i ∷ []
+listed (More is) = vec_items is
+
 -- an expression in storage
 abbrev pub StoredExpression : Type 0
-StoredExpression = Vec (StoredItem ℕ) Global
+StoredExpression = StoredItems ℕ
 
 abbrev pub values_of : List Word → List ℕ
 values_of ws = map (λ (w : Word). w.value) ws
 
+-- what a part is that owns its cases and first words
+abbrev pub OwnedBody : Type 0 → Type 0
+OwnedBody E = StoredBody E (Vec E Global) (Vec Word Global)
+
 -- what a part is, its expressions being told by how each is read
-abbrev pub body_by : {E S : Type 0} → (E → Expression S) → StoredBody E → Body S
+abbrev pub body_by : {E S : Type 0} → (E → Expression S) → OwnedBody E → Body S
 body_by read (Memory a d o first) = memory (read a) (read d) (read o) (values_of (vec_items first))
 body_by read (Alu f l r) = alu (read f) (read l) (read r)
 body_by read (Selector s cs) = selector (read s) (map read (vec_items cs))
 
 -- the expression of items that tell their parts by rank
 abbrev pub expression_of : StoredExpression → Expression ℕ
-expression_of e = map (item_by (λ r. r)) (vec_items e)
+expression_of e = map (item_by (λ r. r)) (listed e)
 
 -- a part by its name and what it is
 abbrev pub part_of : Part → Bytes × Body ℕ

@@ -1,5 +1,8 @@
 //! What a circuit is made of.
+ghost use Rattle.std.specs.Prelude.{◌≡◌};
+
 use scan::names::Name;
+use std::slice;
 use word::range::Range;
 use word::value::Word;
 use word::width::Width;
@@ -13,18 +16,40 @@ pub enum Item<R> {
     Bits(R, Range),
 }
 
-/// An expression on a board: its items, the highest first.
-pub type Expression = Vec<Item<usize>>;
+/// The items of an expression, the highest first. Most expressions have one, which needs no list.
+#[derive(Clone, Drop)]
+pub enum Items<R> {
+    One(Item<R>),
+    More(Vec<Item<R>>),
+}
 
-/// What a part is. Its expressions are of the type `E`.
-#[derive(Drop)]
-pub enum Body<E> {
+/// An expression on a board.
+pub type Expression = Items<usize>;
+
+impl Items<usize> {
+    ghost use Rattle.circuit.specs.Meaning.{listed};
+
+    /// The items, the highest first.
+    pub fn as_slice(&self) -> &[Item<usize>]
+        ensures { result.now ≡ listed self.now }
+    {
+        match self {
+            Items::One(item) => slice::from_ref(item),
+            Items::More(items) => items.as_slice(),
+        }
+    }
+}
+
+/// What a part is. Its expressions are of the type `E`, a selector's cases of `C` and a memory's first words of `W`. It owns lists
+/// of cases and words where nothing else is said, and can be copied where all three can.
+#[derive(Clone, Copy, Drop)]
+pub enum Body<E, C = Vec<E>, W = Vec<Word>> {
     /// A memory, with its first words.
     Memory {
         address: E,
         data: E,
         operation: E,
-        first: Vec<Word>,
+        first: W,
     },
     /// An ALU.
     Alu {
@@ -35,7 +60,7 @@ pub enum Body<E> {
     /// A selector, with its cases.
     Selector {
         select: E,
-        cases: Vec<E>,
+        cases: C,
     },
 }
 

@@ -2,7 +2,7 @@
 ghost use Rattle.std.specs.Prelude.{◌≡◌, length, nat_le};
 ghost use Rattle.std.specs.Option.{is_none};
 ghost use Rattle.verdict.specs.Values.{item_value};
-ghost use Rattle.circuit.specs.Meaning.{item_by, width_of};
+ghost use Rattle.circuit.specs.Meaning.{item_by, listed, width_of};
 ghost use Rattle.circuit.specs.Worth.{shown_by, worth, is_astray};
 
 use crate::parts::{Body, Expression, Item, Part};
@@ -70,7 +70,7 @@ fn chosen<'c>(
     cases: &'c [Expression],
     shown: &[Word],
 ) -> Option<&'c Expression>
-    ensures { is_none result ≡ nat_le (length cases.now) (worth shown.now select.now.items) }
+    ensures { is_none result ≡ nat_le (length cases.now) (worth shown.now (listed select.now)) }
 {
     cases.get(worth(select.as_slice(), shown).value as usize)
 }

@@ -2,7 +2,7 @@
 ghost use Rattle.std.specs.Prelude.{◌≡◌, ◌≤◌};
 ghost use Rattle.scan.specs.NameBytes.{name_bytes};
 
-use circuit::parts::{Body, Item};
+use circuit::parts::{Body, Items};
 use names::{Named, Placed, new_name};
 use refusal::kinds::{Fault, Refusal};
 use scan::names::Name;
@@ -15,21 +15,42 @@ pub const MOST_WORDS: usize = 4096;
 pub(crate) const MOST_ITEMS: usize = 2048;
 
 /// An expression in a text: its items, the highest first, and the place of its word.
-#[derive(Drop)]
+#[derive(Clone, Drop)]
 pub struct Field {
-    pub items: Vec<Item<Name>>,
+    pub items: Items<Name>,
     pub place: usize,
 }
 
-/// A part, and the place of its name.
-#[derive(Drop)]
-pub struct Drafted {
+/// A part's name in an expression, and the place of the field that it stands in.
+#[derive(Clone, Copy, Debug, PartialEq, Eq)]
+pub struct Reference {
     pub name: Name,
     pub place: usize,
-    pub body: Body<Field>,
 }
 
-impl Named for Drafted {
+/// A part, and the place of its name. What is told of it besides is of the type `B`: all that it is, where nothing else is said.
+#[derive(Clone, Copy, Drop)]
+pub struct Drafted<B = Body<Field>> {
+    pub name: Name,
+    pub place: usize,
+    pub body: B,
+}
+
+impl<B> Drafted<B> {
+    /// The part's name and its place alone.
+    pub fn heading(&self) -> Drafted<()>
+        ensures name { result.name ≡ self.now.name }
+        ensures place { result.place ≡ self.now.place }
+    {
+        Drafted {
+            name: self.name,
+            place: self.place,
+            body: (),
+        }
+    }
+}
+
+impl<B> Named for Drafted<B> {
     ghost label = { λ p. name_bytes p.name };
 
     fn name(&self) -> &[u8] {
@@ -37,7 +58,7 @@ impl Named for Drafted {
     }
 }
 
-impl Placed for Drafted {
+impl<B> Placed for Drafted<B> {
     ghost stands_at = { λ p. p.place };
 
     fn place(&self) -> usize {
@@ -56,15 +77,23 @@ pub struct Room {
 impl Room {
     ghost use Rattle.draft.specs.Rooms.{claimed, taken_after};
 
+    /// Whether so much more can be taken. It is refused where that is over the most.
+    pub fn check(&self, more: usize, place: usize) -> Result<(), Fault>
+        ensures { result ≡ claimed self.now more place }
+    {
+        if more > self.most - self.taken {
+            return Err(Refusal::OverLimit.at(place));
+        }
+        Ok(())
+    }
+
     /// Takes so much more. It is refused where that is over the most.
     pub fn claim(&mut self, more: usize, place: usize) -> Result<(), Fault>
         ensures answer { result ≡ claimed self.old more place }
         ensures taken { self.new.taken ≡ taken_after self.old more }
         ensures most { self.new.most ≡ self.old.most }
     {
-        if more > self.most - self.taken {
-            return Err(Refusal::OverLimit.at(place));
-        }
+        self.check(more, place)?;
         self.taken += more;
         Ok(())
     }
@@ -75,6 +104,8 @@ impl Room {
 pub struct Draft {
     /// The parts in text order.
     pub parts: Vec<Drafted>,
+    /// The names in all expressions, in text order.
+    pub references: Vec<Reference>,
     /// The items of all expressions.
     pub items: Room,
     /// The words of all memories.

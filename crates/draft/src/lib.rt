@@ -2,14 +2,32 @@
 #![tactic(auto)]
 
 ghost use Rattle.std.specs.Prelude.{◌≡◌};
+ghost use Rattle.scan.specs.NameBytes.{name_bytes};
 ghost use Rattle.draft.specs.Drafts.{Blank};
 
+use names::{Named, Placed};
 use std::alloc::Global;
 
 pub mod drafts;
 pub mod entry;
 
-use drafts::{Draft, MOST_ITEMS, MOST_WORDS, Room};
+use drafts::{Draft, MOST_ITEMS, MOST_WORDS, Reference, Room};
+
+impl Named for Reference {
+    ghost label = { λ r. name_bytes r.name };
+
+    fn name(&self) -> &[u8] {
+        self.name.as_bytes()
+    }
+}
+
+impl Placed for Reference {
+    ghost stands_at = { λ r. r.place };
+
+    fn place(&self) -> usize {
+        self.place
+    }
+}
 
 impl Draft {
     /// No part is read yet.
@@ -18,6 +36,7 @@ impl Draft {
     {
         Draft {
             parts: Vec::new(heap),
+            references: Vec::new(heap),
             items: Room {
                 taken: 0,
                 most: MOST_ITEMS,

@@ -1,102 +1,70 @@
 //! The checks after the closing stop, and the circuit: parts by rank, telling each other by rank.
 #![tactic(auto)]
 
-use circuit::parts::{Body, Expression, Item, Listed, Part};
+ghost use Rattle.std.specs.Prelude.{◌≡◌, map, IfErr};
+ghost use Rattle.refusal.specs.Numbers.{number};
+ghost use Rattle.refusal.specs.declared.kinds.Refusal.TheVariants.{NoSuchPart};
+ghost use Rattle.scan.specs.NameBytes.{name_bytes};
+ghost use Rattle.verdict.specs.Verdict.{check_among};
+ghost use Rattle.names.specs.Checks.{told};
+ghost use Rattle.draft.specs.declared.drafts.Reference.{Reference};
+
+use circuit::parts::{Body, Expression, Item, Items, Listed, Part};
 use circuit::wiring::Circuit;
-use draft::drafts::{Draft, Drafted, Field};
+use draft::drafts::{Draft, Drafted, Field, Reference};
 use draft::entry::Entry;
 use links::arcs::Links;
-use names::{check_named, find, ordered, sorted};
+use names::{Named, check_named, find, ordered, sorted};
 use refusal::kinds::{Failure, Fault, Refusal};
 use scan::names::Name;
 use std::alloc::{AllocError, Global};
 
-/// Whether the item names no part that is missing.
-fn is_there(item: &Item<Name>, parts: &[&Drafted]) -> bool {
-    match item {
-        Item::Constant(_, _) => true,
-        Item::Bits(name, _) => find(parts, name.as_bytes()).is_some(),
-    }
-}
-
-/// Refuses a field with a name that no part has.
-fn check_field(field: &Field, parts: &[&Drafted]) -> Result<(), Fault> {
-    if field.items.iter().all(|item| is_there(item, parts)) {
-        Ok(())
-    } else {
-        Err(Refusal::NoSuchPart.at(field.place))
-    }
-}
-
-/// Refuses the first name in the fields of a part that no part has. The fields are named here and in `link_part`, since a memory's
-/// are checked and do not link.
-fn check_body(body: &Body<Field>, parts: &[&Drafted]) -> Result<(), Fault> {
-    match body {
-        Body::Memory {
-            address,
-            data,
-            operation,
-            ..
-        } => {
-            check_field(address, parts)?;
-            check_field(data, parts)?;
-            check_field(operation, parts)
-        }
-        Body::Alu {
-            function,
-            left,
-            right,
-        } => {
-            check_field(function, parts)?;
-            check_field(left, parts)?;
-            check_field(right, parts)
-        }
-        Body::Selector { select, cases } => {
-            check_field(select, parts)?;
-            for case in cases.as_slice() {
-                check_field(case, parts)?;
-            }
-            Ok(())
-        }
-    }
-}
-
-/// Refuses the first name in an expression that no part has. The drafted parts are in text order.
-pub fn check_references(drafted: &[Drafted], parts: &[&Drafted]) -> Result<(), Fault> {
-    for part in drafted {
-        check_body(&part.body, parts)?;
-    }
-    Ok(())
+/// Refuses the first name in an expression that no part has. The references are in text order.
+pub fn check_references<T: Named>(references: &[Reference], parts: &[T]) -> Result<(), Fault>
+    ensures first { told result ≡ check_among (number NoSuchPart) (map T.label parts.now) (map (λ (r : Reference). (name_bytes r.name, r.place)) references.now) }
+    ensures kind { IfErr result (λ f. f.refusal ≡ NoSuchPart) }
+{
+    check_named(references, parts, Refusal::NoSuchPart)
 }
 
 /// The rank of a name among parts that stand by name. Each name was checked before, so one that none has, which would get
 /// the number of parts, does not occur; an `Option` would need a branch that gives up.
-fn rank_of(parts: &[&Drafted], name: &Name) -> usize {
+fn rank_of<T: Named>(parts: &[T], name: &Name) -> usize {
     find(parts, name.as_bytes()).unwrap_or(parts.len())
 }
 
 /// An item that tells its part by rank.
-fn ranked_item(item: &Item<Name>, parts: &[&Drafted]) -> Item<usize> {
+fn ranked_item<T: Named>(item: &Item<Name>, parts: &[T]) -> Item<usize> {
     match item {
         Item::Constant(value, width) => Item::Constant(*value, *width),
         Item::Bits(name, range) => Item::Bits(rank_of(parts, name), *range),
     }
 }
 
+/// Items that tell parts by rank, in just the room that they need.
+fn ranked_items<T: Named>(
+    heap: Global,
+    items: &[Item<Name>],
+    parts: &[T],
+) -> Result<Vec<Item<usize>>, AllocError> {
+    let mut ranked = Vec::with_capacity(heap, items.len())?;
+    ranked.extend(items.iter().map(|item| ranked_item(item, parts)))?;
+    Ok(ranked)
+}
+
 /// An expression that tells parts by rank.
-fn ranked(heap: Global, field: &Field, parts: &[&Drafted]) -> Result<Expression, AllocError> {
-    field
-        .items
-        .iter()
-        .map(|item| ranked_item(item, parts))
-        .collect(heap)
+fn ranked<T: Named>(heap: Global, field: Field, parts: &[T]) -> Result<Expression, AllocError> {
+    match field.items {
+        Items::One(only) => Ok(Items::One(ranked_item(&only, parts))),
+        Items::More(items) => Ok(Items::More(ranked_items(heap, items.as_slice(), parts)?)),
+    }
 }
 
 /// What a part is, with parts told by rank.
-fn ranked_body(
+fn ranked_body<T: Named>(
     heap: Global,
-    body: &Body<Field>,
-    parts: &[&Drafted],
+    body: Body<Field>,
+    parts: &[T],
 ) -> Result<Body<Expression>, AllocError> {
     match body {
         Body::Memory {
@@ -108,7 +76,7 @@ fn ranked_body(
             address: ranked(heap, address, parts)?,
             data: ranked(heap, data, parts)?,
             operation: ranked(heap, operation, parts)?,
-            first: Vec::from_slice(heap, first.as_slice())?,
+            first,
         }),
         Body::Alu {
             function,
@@ -122,7 +90,7 @@ fn ranked_body(
         Body::Selector { select, cases } => Ok(Body::Selector {
             select: ranked(heap, select, parts)?,
             cases: cases
-                .iter()
+                .into_iter()
                 .map(|case| ranked(heap, case, parts))
                 .try_collect(heap)?,
         }),
@@ -130,26 +98,34 @@ fn ranked_body(
 }
 
 /// A part with parts told by rank.
-fn ranked_part(heap: Global, part: &Drafted, parts: &[&Drafted]) -> Result<Part, AllocError> {
+fn ranked_part<T: Named>(heap: Global, part: Drafted, parts: &[T]) -> Result<Part, AllocError> {
     Ok(Part {
         name: part.name,
-        body: ranked_body(heap, &part.body, parts)?,
+        body: ranked_body(heap, part.body, parts)?,
     })
 }
 
-/// The parts of a circuit, of parts that stand by name.
-fn ranked_parts(heap: Global, parts: &[&Drafted]) -> Result<Vec<Part>, AllocError> {
-    parts
-        .iter()
+/// The parts of a circuit by rank, of the drafted ones, each of which is given up as soon as it is made. They stand as `sorted`
+/// has them: of those that share a name, the last stands first.
+fn ranked_parts<T: Named>(
+    heap: Global,
+    drafted: Vec<Drafted>,
+    parts: &[T],
+) -> Result<Vec<Part>, AllocError> {
+    let mut ranked: Vec<Part> = drafted
+        .into_iter()
+        .rev()
         .map(|part| ranked_part(heap, part, parts))
-        .try_collect(heap)
+        .try_collect(heap)?;
+    ranked.sort_by(|one, other| one.name.cmp(&other.name))?;
+    Ok(ranked)
 }
 
 /// The list with parts told by rank.
-pub fn ranked_list(
+pub fn ranked_list<T: Named>(
     heap: Global,
     listed: &[Entry],
-    parts: &[&Drafted],
+    parts: &[T],
 ) -> Result<Vec<Listed>, AllocError> {
     listed
         .iter()
@@ -203,8 +179,8 @@ fn links_of(parts: &[Part]) -> Links {
 /// The circuit of parts and list once all was read, if it meets none of the checks after the closing stop: each listed name
 /// has a part, each part is listed, and expressions name parts; and the ALUs and selectors read each other in no circle.
 pub fn link(heap: Global, draft: Draft, listed: &[Entry]) -> Result<Circuit, Failure> {
-    let drafted: Vec<&Drafted> = draft.parts.iter().collect(heap)?;
-    let by_name = sorted(heap, drafted.as_slice())?;
+    let headings: Vec<Drafted<()>> = draft.parts.iter().map(Drafted::heading).collect(heap)?;
+    let by_name = sorted(heap, headings.as_slice())?;
     let listed_by_name = sorted(heap, listed)?;
     check_named(
         listed_by_name.as_slice(),
@@ -216,8 +192,8 @@ pub fn link(heap: Global, draft: Draft, listed: &[Entry]) -> Result<Circuit, Fai
         listed_by_name.as_slice(),
         Refusal::PartNotListed,
     )?;
-    check_references(draft.parts.as_slice(), by_name.as_slice())?;
-    let parts = ranked_parts(heap, by_name.as_slice())?;
+    check_references(draft.references.as_slice(), by_name.as_slice())?;
+    let parts = ranked_parts(heap, draft.parts, by_name.as_slice())?;
     let order = ordered(
         heap,
         &links_of(parts.as_slice()),

@@ -4,12 +4,14 @@
 ghost use Rattle.std.specs.Prelude.{◌≡◌};
 ghost use Rattle.macros.specs.Tables.{table_of};
 
-use circuit::parts::Body;
-use draft::drafts::{Draft, Drafted, Field, MOST_WORDS};
+use circuit::parts::{Body, Item, Items};
+use draft::drafts::{Draft, Drafted, Field, MOST_WORDS, Reference};
 use items::expression::{judge, keep};
+use items::item::item;
 use macros::table::Macros;
 use numbers::number;
 use refusal::kinds::{Failure, Fault, Refusal};
+use scan::names::Name;
 use scan::reader::TextWord;
 use sections::rows::Next;
 use std::alloc::Global;
@@ -71,13 +73,30 @@ impl<'w, 't> PartWords<'w, 't> {
     }
 }
 
+/// The kind of part that a letter opens.
+fn kind_for(letter: char) -> Option<Kind> {
+    match letter {
+        'A' => Some(Kind::Alu),
+        'S' => Some(Kind::Selector),
+        'M' => Some(Kind::Memory),
+        _ => None,
+    }
+}
+
 /// The kind of part that a word opens, if it is exactly a part letter.
 fn kind_of(word: TextWord<'_>) -> Result<Kind, Fault> {
-    match word.text {
-        [b'A'] => Ok(Kind::Alu),
-        [b'S'] => Ok(Kind::Selector),
-        [b'M'] => Ok(Kind::Memory),
-        _ => Err(Refusal::Malformed.at(word.place)),
+    let kind = match word.text {
+        [letter] => kind_for(char::from(*letter)),
+        _ => None,
+    };
+    kind.ok_or(Refusal::Malformed.at(word.place))
+}
+
+/// The name that an item tells, with the place of its field.
+fn reference(item: &Item<Name>, place: usize) -> Option<Reference> {
+    match item {
+        Item::Constant(_, _) => None,
+        Item::Bits(name, _) => Some(Reference { name: *name, place }),
     }
 }
 
@@ -130,12 +149,38 @@ impl<'t> PartReader<'t> {
         self.fill(word)?;
         let count = judge(self.field.as_slice(), word.place)?;
         draft.items.claim(count, word.place)?;
-        let mut items = Vec::new(self.heap);
-        keep(self.field.as_slice(), word.place, &mut items)?;
+        let items = if count == 1 {
+            self.only_item(draft, word.place)?
+        } else {
+            self.all_items(draft, count, word.place)?
+        };
         Ok(Field {
             items,
             place: word.place,
         })
+    }
+
+    /// The item of a field that has one.
+    fn only_item(&self, draft: &mut Draft, place: usize) -> Result<Items<Name>, Failure> {
+        let only = item(self.field.as_slice(), place)?;
+        if let Some(named) = reference(&only, place) {
+            draft.references.push(named)?;
+        }
+        Ok(Items::One(only))
+    }
+
+    /// The items of a field that has so many, in just the room that they need.
+    fn all_items(
+        &self,
+        draft: &mut Draft,
+        count: usize,
+        place: usize,
+    ) -> Result<Items<Name>, Failure> {
+        let mut items = Vec::with_capacity(self.heap, count)?;
+        keep(self.field.as_slice(), place, &mut items)?;
+        let named = items.iter().filter_map(|item| reference(item, place));
+        draft.references.extend(named)?;
+        Ok(Items::More(items))
     }
 
     /// Reads one part and keeps it.
@@ -216,7 +261,6 @@ impl<'t> PartReader<'t> {
         let data = self.expression(draft, words.take()?)?;
         let operation = self.expression(draft, words.take()?)?;
         let first = self.first_words(draft, &mut words)?;
-        words.end()?;
         Ok(Body::Memory {
             address,
             data,
@@ -225,7 +269,8 @@ impl<'t> PartReader<'t> {
         })
     }
 
-    /// The first words of a memory, by its size.
+    /// The first words of a memory, by its size, which end the part. The drawing's room for words is asked first, and taken by the
+    /// words as they are kept.
     fn first_words(
         &mut self,
         draft: &mut Draft,
@@ -234,21 +279,36 @@ impl<'t> PartReader<'t> {
         let word = words.take()?;
         self.fill(word)?;
         let size = size_of(self.field.as_slice(), word.place)?;
-        draft.words.claim(size.count(), word.place)?;
+        draft.words.check(size.count(), word.place)?;
         match size {
-            Size::Zeros(count) => Ok(vec![in self.heap; Word::zero(); count]?),
-            Size::Given(count) => self.given(words, count),
+            Size::Zeros(count) => {
+                words.end()?;
+                draft.words.claim(count, word.place)?;
+                Ok(vec![in self.heap; Word::zero(); count]?)
+            }
+            Size::Given(count) => {
+                let first = self.given(draft, words, count)?;
+                words.end()?;
+                Ok(first)
+            }
         }
     }
 
     /// So many words that stand in the text.
-    fn given(&mut self, words: &mut PartWords<'_, '_>, count: usize) -> Result<Vec<Word>, Failure> {
+    fn given(
+        &mut self,
+        draft: &mut Draft,
+        words: &mut PartWords<'_, '_>,
+        count: usize,
+    ) -> Result<Vec<Word>, Failure> {
         let mut first = Vec::new(self.heap);
         // The loop counts words that may be missing, and walks no list.
         for _ in 0..count {
             let word = words.take()?;
             self.fill(word)?;
-            first.push(number(self.field.as_slice(), word.place)?)?;
+            let value = number(self.field.as_slice(), word.place)?;
+            draft.words.claim(1, word.place)?;
+            first.push(value)?;
         }
         Ok(first)
     }
