@@ -1,6 +1,7 @@
 -- Writing behind a writing is one writing, since what is past the end is never written.
-use Rattle.std.proofs.Common.{◌≡◌, ℕ, zero, suc, ◌+◌, ◌^◌, ◌<◌, ◌≤◌, min, List, [], ◌∷◌, ◌++◌, length, set, take, slice_index_or, sym, refl, ap, ◌∙◌, inl, inr, arith, length-append, length-set}
+use Rattle.std.proofs.Common.{◌≡◌, ℕ, zero, suc, ◌+◌, ◌-◌, ◌^◌, ◌<◌, ◌≤◌, min, List, [], ◌∷◌, ◌++◌, length, set, take, drop, slice_index_or, sym, refl, ap, ◌∙◌, inl, inr, arith, length-append, length-set}
 use Rattle.std.proofs.lemmas.List.{take_more}
+use borrow.Rule.Slice.PartMut.{put_mid}
 use Rattle.std.proofs.str.Laws.{order}
 use Rattle.lines.specs.Laid.{laid, Put}
 use Rattle.lines.specs.Pages.{Adds}
@@ -45,3 +46,37 @@ adds_then xs bs page page' page'' p q = record {
 -- one byte more of some bytes
 pub adds_more : (bs : List ℕ) (i : ℕ) (page page' page'' : Page) → i < length bs → Adds (take i bs) page page' → Adds (slice_index_or bs i 0 ∷ []) page' page'' → Adds (take (i + 1) bs) page page''
 adds_more bs i page page' page'' h p q = rw (take_more bs i 0 h) (adds_then _ _ _ _ _ p q)
+
+-- bytes written behind the first byte of a buffer leave that as it was
+pub laid_behind : (bs out : List ℕ) (at b : ℕ) → laid (suc at) bs (b ∷ out) ≡ b ∷ laid at bs out
+laid_behind [] out at b = refl
+laid_behind (c ∷ bs) out at b = ap (λ k. laid k bs (b ∷ set out at c)) (omega arith) ∙ laid_behind bs (set out at c) (at + 1) b
+
+-- bytes written from the front of a buffer: as many as fit
+pub laid_front : (bs out : List ℕ) (n : ℕ) → n ≡ min (length bs) (length out) → laid 0 bs out ≡ take n bs ++ drop n out
+laid_front [] out zero e = refl
+laid_front [] out (suc n) e = absurd (omega (arith, e))
+laid_front (b ∷ bs) [] zero e = laid_past (b ∷ bs) [] 0 (omega arith)
+laid_front (b ∷ bs) [] (suc n) e = absurd (omega (arith, e))
+laid_front (b ∷ bs) (x ∷ out) zero e = absurd (omega (arith, e))
+laid_front (b ∷ bs) (x ∷ out) (suc n) e = laid_behind bs out 0 b ∙ ap (λ l. b ∷ l) (laid_front bs out n (omega (arith, e)))
+
+-- bytes written from a place on: as many as fit between the place and the end, and none past it
+pub laid_part : (bs out : List ℕ) (at from n : ℕ) → from ≡ min at (length out) → n ≡ min (length bs) (length out - from) → laid at bs out ≡ put_mid from n out (take n bs)
+laid_part bs [] at zero zero f e = laid_past bs [] at (omega arith)
+laid_part bs [] at (suc from) n f e = absurd (omega (arith, f))
+laid_part bs [] at zero (suc n) f e = absurd (omega (arith, e))
+laid_part bs (x ∷ out) zero zero n f e = laid_front bs (x ∷ out) n (omega (arith, e))
+laid_part bs (x ∷ out) zero (suc from) n f e = absurd (omega (arith, f))
+laid_part bs (x ∷ out) (suc at) zero n f e = absurd (omega (arith, f))
+laid_part bs (x ∷ out) (suc at) (suc from) n f e = laid_behind bs out at x ∙ ap (λ l. x ∷ l) (laid_part bs out at from n (omega (arith, f)) (omega (arith, e)))
+
+-- past the end nothing is written, and bytes are counted alone
+pub adds_past : (bs : List ℕ) (n : ℕ) (page page' : Page) → length page.out.now ≤ page.at → n ≡ length bs → page'.out.ghost_name ≡ page.out.ghost_name → page'.out.now ≡ page.out.now → page'.at ≡ min (page.at + n) 18446744073709551615 → Adds bs page page'
+adds_past bs n page page' past many name now at = record {
+  same_reference = name;
+  put = record {
+    after = at ∙ ap (λ k. min (page.at + k) 18446744073709551615) many;
+    holds = now ∙ sym (laid_past bs page.out.now page.at past);
+  };
+}

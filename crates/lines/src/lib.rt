@@ -41,15 +41,21 @@ impl<'b> Page<'b> {
     pub fn text(&mut self, bytes: &[u8])
         ensures { Adds bytes.now self.old self.new }
     {
-        for byte in bytes {
-            self.byte(*byte);
-        }
+        // what is past the end is counted alone
+        let from = self.at.min(self.out.len());
+        let fit = bytes.len().min(self.out.len() - from);
+        self.out[from..from + fit].copy_from_slice(&bytes[..fit]);
+        self.at = self.at.saturating_add(bytes.len());
     }
 
     /// Writes a number in decimal digits.
     pub fn number(&mut self, number: u32)
         ensures { Adds (decimal number) self.old self.new }
     {
+        if self.at >= self.out.len() {
+            self.at = self.at.saturating_add(number_length(number));
+            return;
+        }
         let mut digits = Buffer::new();
         self.text(digits.format(number).as_bytes());
     }
