@@ -21,6 +21,10 @@ pub const LONGEST_INPUT: usize = 65_536;
 /// How many bytes a buffer has that is long enough for whatever one call of `next` writes.
 pub const LONGEST_LINE: usize = 4096;
 
+/// How many calls of `next` write something at most: the line and the notes of each cycle that a run sheet may ask for, and the
+/// last line.
+pub const MOST_LINES: u32 = 200_001;
+
 /// From which port on the panel is served.
 const PANEL_PORTS: u32 = 4096;
 
