@@ -1,5 +1,5 @@
-use Rattle.std.proofs.Common.{◌+◌, ◌-◌, refl, sym, ap, ◌∙◌, take, arith}
-use borrow.Rule.Slice.PartMut.{put_mid}
+-- What fits is copied to its place, and all of it is counted.
+use Rattle.std.proofs.Common.{◌≡◌, ◌+◌, ◌-◌, rules, arith}
 use Rattle.lines.proofs.Lays.{laid_part}
 use Rattle.lines.proofs.Page.text.Goals as goal
 
@@ -8,13 +8,10 @@ returns c =
     let page = c.args.self.now in
     let from = c.min-from.result in
     let fit = c.min-fit.result in
-    let bytes = c.args.bytes.now in
+    let wide : from + fit - from ≡ fit = omega arith in
+    let copied = c.copy_from_slice.ensures.after in
+    let laid = laid_part c.args.bytes.now page.out.now page.at from fit (omega (arith, c.min-from.ensures)) (omega (arith, c.min-fit.ensures)) in
     record {
-      same_reference = refl;
-      put = record {
-        after = c.saturating_add-self.ensures;
-        holds = ap (λ ys. put_mid from (from + fit - from) page.out.now ys) c.copy_from_slice.ensures.after
-            ∙ ap (λ n. put_mid from n page.out.now (take fit bytes)) (omega arith)
-            ∙ sym (laid_part bytes page.out.now page.at from fit c.min-from.ensures c.min-fit.ensures);
-      };
+      same_reference = search rules;
+      put = record { after = search (rules, arith); holds = cc };
     }
