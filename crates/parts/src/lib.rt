@@ -74,6 +74,7 @@ impl<'w, 't> PartWords<'w, 't> {
 }
 
 /// The kind of part that a letter opens.
+// A letter is a character; a match on bytes is no plainer.
 fn kind_for(letter: char) -> Option<Kind> {
     match letter {
         'A' => Some(Kind::Alu),
