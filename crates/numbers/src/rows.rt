@@ -1,7 +1,7 @@
 //! Rows of digits.
 ghost use Rattle.std.specs.Prelude.{◌≡◌, ◌+◌, ◌*◌, IfErr};
 ghost use Rattle.refusal.specs.declared.kinds.Refusal.TheVariants.{Malformed};
-ghost use Rattle.numbers.specs.Numbers.{digits};
+ghost use Rattle.numbers.specs.Numbers.{digits_after, digits};
 ghost use Rattle.numbers.specs.Answers.{unplaced};
 ghost use Rattle.numbers.specs.Capped.{cut, capped, told, size, digit_in};
 
@@ -53,10 +53,23 @@ fn digit(byte: u8) -> Option<u32>
     }
 }
 
+/// What a row of digits says behind digits that say more than 32 bits hold: nothing, if all its
+/// bytes are digits of the base.
+#[tactic(auto, using(crate::proofs::Caps::more_over, crate::proofs::Caps::no_digit, crate::proofs::Caps::all_read))]
+fn row_over(text: &[u8], base: Base) -> Result<Option<u32>, Refusal>
+    ensures judged { unplaced told result ≡ capped (digits_after (size base) 2147483648 text.now) }
+    ensures kind { IfErr result (λ r. r ≡ Malformed) }
+{
+    for byte in text {
+        base.digit(*byte).ok_or(Refusal::Malformed)?;
+    }
+    Ok(None)
+}
+
 /// What a row of digits says in the base, or nothing once that is more than 32 bits hold. No digit
 /// at all, or a byte that is no digit of the base, is malformed.
 // This and what stands on it fail in one way alone; a type for that would turn into a refusal at once.
-#[tactic(auto, using(crate::proofs::Caps::none_read, crate::proofs::Caps::more, crate::proofs::Caps::no_digit, crate::proofs::Caps::all_read))]
+#[tactic(auto, using(crate::proofs::Caps::none_read, crate::proofs::Caps::more, crate::proofs::Caps::passed, crate::proofs::Caps::no_digit, crate::proofs::Caps::all_read))]
 pub(crate) fn row(text: &[u8], base: Base) -> Result<Option<u32>, Refusal>
     ensures judged { unplaced told result ≡ capped (digits (size base) text.now) }
     ensures kind { IfErr result (λ r. r ≡ Malformed) }
@@ -64,10 +77,13 @@ pub(crate) fn row(text: &[u8], base: Base) -> Result<Option<u32>, Refusal>
     if text.is_empty() {
         return Err(Refusal::Malformed);
     }
-    let mut value = Some(0);
-    for byte in text {
+    let mut value = 0;
+    for (at, byte) in text.iter().enumerate() {
         let digit = base.digit(*byte).ok_or(Refusal::Malformed)?;
-        value = base.append(value, digit);
+        match base.append(Some(value), digit) {
+            Some(more) => value = more,
+            None => return row_over(&text[at + 1..], base),
+        }
     }
-    Ok(value)
+    Ok(Some(value))
 }
