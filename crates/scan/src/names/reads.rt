@@ -17,7 +17,7 @@ impl Name {
         if !is_name(text) {
             return None;
         }
-        let text = str::from_utf8(text).ok()?;
+        let text = unsafe { str::from_utf8_unchecked(text) };
         let text = ArrayString::from(text).ok()?;
         Some(Name { text })
     }
