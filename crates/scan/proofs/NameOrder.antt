@@ -1,10 +1,10 @@
 -- The order of names is the library's order of lists of bytes, so it is strict and total.
 use Rattle.std.proofs.Common.{◌≡◌, true, false, Some, ◌⊎◌, ◌≢◌, Bool, sym, refl, ap, ◌∙◌, inl, inr, arith, rules}
 use Rattle.std.proofs.lemmas.Bool.Decides.{nat_tests}
-use Rattle.std.proofs.lemmas.Cmp.{same_from_slice_cmp, same_from_slice_cmp_tested, tied_itself, nat_list_cmp_total}
+use Rattle.std.proofs.lemmas.Cmp.{same_from_slice_cmp, tied_itself, nat_list_cmp_total}
 use Rattle.std.proofs.lemmas.Map.Lookups.{exact_bytes}
 use Rattle.std.proofs.lemmas.Slice.Eq.{compares_Decides}
-use Rattle.std.specs.Cmp.Lexicographic.{slice_cmp, slice_partial_cmp}
+use Rattle.std.specs.Cmp.Lexicographic.{slice_cmp}
 use Rattle.std.specs.declared.cmp.Ordering.{Ordering}
 use Rattle.std.specs.declared.cmp.Ordering.TheVariants.{Less, Equal, Greater}
 use Rattle.std.specs.Ordering.{nat_cmp, is_lt, is_some_and, ordering_reverse}
@@ -12,11 +12,11 @@ use Rattle.scan.specs.Names.{Bytes, same, before}
 use Rattle.scan.specs.NamesOrdered.{NamesOrdered}
 
 -- the library's order of slices is this one
-pub slice_before : (xs ys : Bytes) (r : Bool) → r ≡ is_some_and is_lt (slice_partial_cmp (λ x y. Some (nat_cmp x y)) xs ys) → r ≡ before xs ys
-slice_before = same_from_slice_cmp_tested nat_cmp is_lt before refl (λ _ _. refl) (λ _ _. refl) (λ x y xs ys o h. grind (arith, nat_tests))
+pub slice_before : (xs ys : Bytes) (o : Ordering) → o ≡ slice_cmp nat_cmp xs ys → is_lt o ≡ before xs ys
+slice_before = same_from_slice_cmp nat_cmp is_lt before refl (λ _ _. refl) (λ _ _. refl) (λ x y xs ys o h. grind (arith, nat_tests))
 
 by_cmp : (xs ys : Bytes) → is_lt (slice_cmp nat_cmp xs ys) ≡ before xs ys
-by_cmp xs ys = same_from_slice_cmp nat_cmp is_lt before refl (λ _ _. refl) (λ _ _. refl) (λ x y xs ys o h. grind (arith, nat_tests)) xs ys _ refl
+by_cmp xs ys = slice_before xs ys _ refl
 
 -- and so is its order of texts
 pub text_before : (xs ys : Bytes) (r : Bool) → r ≡ is_some_and is_lt (Some (slice_cmp nat_cmp xs ys)) → r ≡ before xs ys

@@ -52,7 +52,10 @@ pub fn is_same(one: &[u8], other: &[u8]) -> bool
 pub fn is_before(one: &[u8], other: &[u8]) -> bool
     ensures { result ≡ before one.now other.now }
 {
-    one < other
+    match (one, other) {
+        ([first, ..], [second, ..]) if first != second => first < second,
+        _ => one.cmp(other).is_lt(),
+    }
 }
 
 /// Carries the theorem on the order of names.
