@@ -17,6 +17,7 @@ impl Name {
         if !is_name(text) {
             return None;
         }
+        // The bytes of a name are text, since each is below 128: that is proved here, and not tested a second time.
         let text = unsafe { str::from_utf8_unchecked(text) };
         let text = ArrayString::from(text).ok()?;
         Some(Name { text })
