@@ -1,12 +1,14 @@
 //! The parts that were read so far.
 ghost use Rattle.std.specs.Prelude.{◌≡◌, ◌≤◌};
 ghost use Rattle.scan.specs.NameBytes.{name_bytes};
+ghost use Rattle.draft.specs.Rows.{row};
 
-use circuit::parts::{Body, Items};
+use circuit::parts::{Body, Item};
 use names::{Named, Placed, new_name};
 use refusal::kinds::{Fault, Refusal};
 use scan::names::Name;
 use scan::reader::TextWord;
+use word::value::Word;
 
 /// How many memory words a drawing may have, and a memory of it.
 pub const MOST_WORDS: usize = 4096;
@@ -14,11 +16,20 @@ pub const MOST_WORDS: usize = 4096;
 /// How many items a drawing may have.
 pub(crate) const MOST_ITEMS: usize = 2048;
 
-/// An expression in a text: its items, the highest first, and the place of its word.
-#[derive(Clone, Drop)]
-pub struct Field {
-    pub items: Items<Name>,
-    pub place: usize,
+/// Neighbours in a list: those from `start` up to `end`, which is left out.
+#[derive(Clone, Copy, Debug, PartialEq, Eq)]
+pub struct Span {
+    pub start: usize,
+    pub end: usize,
+}
+
+/// What a span marks in a list, as far as the list goes.
+pub fn marked<T>(all: &[T], at: Span) -> &[T]
+    ensures { result.now ≡ row all.now at }
+{
+    let end = at.end.min(all.len());
+    let start = at.start.min(end);
+    &all[start..end]
 }
 
 /// A part's name in an expression, and the place of the field that it stands in.
@@ -28,29 +39,16 @@ pub struct Reference {
     pub place: usize,
 }
 
-/// A part, and the place of its name. What is told of it besides is of the type `B`: all that it is, where nothing else is said.
-#[derive(Clone, Copy, Drop)]
-pub struct Drafted<B = Body<Field>> {
+/// A part, and the place of its name. Its expressions are spans of the draft's items, its cases and first words spans of the
+/// draft's cases and words, so that it can be copied.
+#[derive(Clone, Copy)]
+pub struct Drafted {
     pub name: Name,
     pub place: usize,
-    pub body: B,
+    pub body: Body<Span, Span, Span>,
 }
 
-impl<B> Drafted<B> {
-    /// The part's name and its place alone.
-    pub fn heading(&self) -> Drafted<()>
-        ensures name { result.name ≡ self.now.name }
-        ensures place { result.place ≡ self.now.place }
-    {
-        Drafted {
-            name: self.name,
-            place: self.place,
-            body: (),
-        }
-    }
-}
-
-impl<B> Named for Drafted<B> {
+impl Named for Drafted {
     ghost label = { λ p. name_bytes p.name };
 
     fn name(&self) -> &[u8] {
@@ -58,7 +56,7 @@ impl<B> Named for Drafted<B> {
     }
 }
 
-impl<B> Placed for Drafted<B> {
+impl Placed for Drafted {
     ghost stands_at = { λ p. p.place };
 
     fn place(&self) -> usize {
@@ -99,16 +97,22 @@ impl Room {
     }
 }
 
-/// The parts that were read so far, and how much they and the one that is being read took.
+/// The parts that were read so far with what they are made of, and how much was taken of what is limited.
 #[derive(Drop)]
 pub struct Draft {
     /// The parts in text order.
     pub parts: Vec<Drafted>,
+    /// The items of all expressions.
+    pub kept: Vec<Item<Name>>,
+    /// The cases of all selectors, each a span of the items.
+    pub cases: Vec<Span>,
+    /// The first words of all memories.
+    pub first: Vec<Word>,
     /// The names in all expressions, in text order.
     pub references: Vec<Reference>,
-    /// The items of all expressions.
+    /// How many items were taken.
     pub items: Room,
-    /// The words of all memories.
+    /// How many memory words were taken.
     pub words: Room,
 }
 

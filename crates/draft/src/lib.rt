@@ -36,6 +36,9 @@ impl Draft {
     {
         Draft {
             parts: Vec::new(heap),
+            kept: Vec::new(heap),
+            cases: Vec::new(heap),
+            first: Vec::new(heap),
             references: Vec::new(heap),
             items: Room {
                 taken: 0,

@@ -11,7 +11,7 @@ ghost use Rattle.draft.specs.declared.drafts.Reference.{Reference};
 
 use circuit::parts::{Body, Expression, Item, Items, Listed, Part};
 use circuit::wiring::Circuit;
-use draft::drafts::{Draft, Drafted, Field, Reference};
+use draft::drafts::{Draft, Drafted, Reference, Span, marked};
 use draft::entry::Entry;
 use links::arcs::Links;
 use names::{Named, check_named, find, ordered, sorted};
@@ -41,31 +41,24 @@ fn ranked_item<T: Named>(item: &Item<Name>, parts: &[T]) -> Item<usize> {
     }
 }
 
-/// Items that tell parts by rank, in just the room that they need.
-fn ranked_items<T: Named>(
-    heap: Global,
-    items: &[Item<Name>],
-    parts: &[T],
-) -> Result<Vec<Item<usize>>, AllocError> {
+/// An expression that tells parts by rank, in just the room that it needs.
+fn ranked(heap: Global, items: &[Item<Name>], parts: &[Drafted]) -> Result<Expression, AllocError> {
+    if let [only] = items {
+        return Ok(Items::One(ranked_item(only, parts)));
+    }
     let mut ranked = Vec::with_capacity(heap, items.len())?;
     ranked.extend(items.iter().map(|item| ranked_item(item, parts)))?;
-    Ok(ranked)
+    Ok(Items::More(ranked))
 }
 
-/// An expression that tells parts by rank.
-fn ranked<T: Named>(heap: Global, field: Field, parts: &[T]) -> Result<Expression, AllocError> {
-    match field.items {
-        Items::One(only) => Ok(Items::One(ranked_item(&only, parts))),
-        Items::More(items) => Ok(Items::More(ranked_items(heap, items.as_slice(), parts)?)),
-    }
-}
-
-/// What a part is, with parts told by rank.
-fn ranked_body<T: Named>(
+/// What a part of the draft is, with parts told by rank.
+fn ranked_body(
     heap: Global,
-    body: Body<Field>,
-    parts: &[T],
+    draft: &Draft,
+    body: Body<Span, Span, Span>,
+    parts: &[Drafted],
 ) -> Result<Body<Expression>, AllocError> {
+    let expression = |at: Span| ranked(heap, marked(draft.kept.as_slice(), at), parts);
     match body {
         Body::Memory {
             address,
@@ -73,52 +66,49 @@ fn ranked_body<T: Named>(
             operation,
             first,
         } => Ok(Body::Memory {
-            address: ranked(heap, address, parts)?,
-            data: ranked(heap, data, parts)?,
-            operation: ranked(heap, operation, parts)?,
-            first,
+            address: expression(address)?,
+            data: expression(data)?,
+            operation: expression(operation)?,
+            first: Vec::from_slice(heap, marked(draft.first.as_slice(), first))?,
         }),
         Body::Alu {
             function,
             left,
             right,
         } => Ok(Body::Alu {
-            function: ranked(heap, function, parts)?,
-            left: ranked(heap, left, parts)?,
-            right: ranked(heap, right, parts)?,
+            function: expression(function)?,
+            left: expression(left)?,
+            right: expression(right)?,
         }),
         Body::Selector { select, cases } => Ok(Body::Selector {
-            select: ranked(heap, select, parts)?,
-            cases: cases
-                .into_iter()
-                .map(|case| ranked(heap, case, parts))
+            select: expression(select)?,
+            cases: marked(draft.cases.as_slice(), cases)
+                .iter()
+                .map(|case| ranked(heap, marked(draft.kept.as_slice(), *case), parts))
                 .try_collect(heap)?,
         }),
     }
 }
 
 /// A part with parts told by rank.
-fn ranked_part<T: Named>(heap: Global, part: Drafted, parts: &[T]) -> Result<Part, AllocError> {
+fn ranked_part(
+    heap: Global,
+    draft: &Draft,
+    part: &Drafted,
+    parts: &[Drafted],
+) -> Result<Part, AllocError> {
     Ok(Part {
         name: part.name,
-        body: ranked_body(heap, part.body, parts)?,
+        body: ranked_body(heap, draft, part.body, parts)?,
     })
 }
 
-/// The parts of a circuit by rank, of the drafted ones, each of which is given up as soon as it is made. They stand as `sorted`
-/// has them: of those that share a name, the last stands first.
-fn ranked_parts<T: Named>(
-    heap: Global,
-    drafted: Vec<Drafted>,
-    parts: &[T],
-) -> Result<Vec<Part>, AllocError> {
-    let mut ranked: Vec<Part> = drafted
-        .into_iter()
-        .rev()
-        .map(|part| ranked_part(heap, part, parts))
-        .try_collect(heap)?;
-    ranked.sort_by(|one, other| one.name.cmp(&other.name))?;
-    Ok(ranked)
+/// The parts of a circuit, of parts of the draft that stand by name.
+fn ranked_parts(heap: Global, draft: &Draft, parts: &[Drafted]) -> Result<Vec<Part>, AllocError> {
+    parts
+        .iter()
+        .map(|part| ranked_part(heap, draft, part, parts))
+        .try_collect(heap)
 }
 
 /// The list with parts told by rank.
@@ -179,8 +169,7 @@ fn links_of(parts: &[Part]) -> Links {
 /// The circuit of parts and list once all was read, if it meets none of the checks after the closing stop: each listed name
 /// has a part, each part is listed, and expressions name parts; and the ALUs and selectors read each other in no circle.
 pub fn link(heap: Global, draft: Draft, listed: &[Entry]) -> Result<Circuit, Failure> {
-    let headings: Vec<Drafted<()>> = draft.parts.iter().map(Drafted::heading).collect(heap)?;
-    let by_name = sorted(heap, headings.as_slice())?;
+    let by_name = sorted(heap, draft.parts.as_slice())?;
     let listed_by_name = sorted(heap, listed)?;
     check_named(
         listed_by_name.as_slice(),
@@ -193,7 +182,7 @@ pub fn link(heap: Global, draft: Draft, listed: &[Entry]) -> Result<Circuit, Fai
         Refusal::PartNotListed,
     )?;
     check_references(draft.references.as_slice(), by_name.as_slice())?;
-    let parts = ranked_parts(heap, draft.parts, by_name.as_slice())?;
+    let parts = ranked_parts(heap, &draft, by_name.as_slice())?;
     let order = ordered(
         heap,
         &links_of(parts.as_slice()),

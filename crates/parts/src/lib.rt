@@ -4,10 +4,9 @@
 ghost use Rattle.std.specs.Prelude.{◌≡◌};
 ghost use Rattle.macros.specs.Tables.{table_of};
 
-use circuit::parts::{Body, Item, Items};
-use draft::drafts::{Draft, Drafted, Field, MOST_WORDS, Reference};
+use circuit::parts::{Body, Item};
+use draft::drafts::{Draft, Drafted, MOST_WORDS, Reference, Span, marked};
 use items::expression::{judge, keep};
-use items::item::item;
 use macros::table::Macros;
 use numbers::number;
 use refusal::kinds::{Failure, Fault, Refusal};
@@ -19,6 +18,9 @@ use word::value::Word;
 
 /// How many cases a selector may have.
 const MOST_CASES: usize = 128;
+
+/// What a drafted part is.
+type DraftedBody = Body<Span, Span, Span>;
 
 /// The kinds of parts.
 #[derive(Clone, Copy, Debug, PartialEq, Eq)]
@@ -122,7 +124,6 @@ fn size_of(text: &[u8], place: usize) -> Result<Size, Fault> {
 /// Reads the parts of a drawing whose macros it holds.
 #[derive(Drop)]
 pub struct PartReader<'t> {
-    heap: Global,
     macros: Macros<'t>,
     /// The field that is being read, with its macros put in.
     field: Vec<u8>,
@@ -134,7 +135,6 @@ impl<'t> PartReader<'t> {
         ensures { table_of result.macros ≡ table_of macros.entry }
     {
         PartReader {
-            heap,
             macros,
             field: Vec::new(heap),
         }
@@ -145,43 +145,18 @@ impl<'t> PartReader<'t> {
         self.macros.fill(word, &mut self.field)
     }
 
-    /// Reads an expression.
-    pub fn expression(&mut self, draft: &mut Draft, word: TextWord<'_>) -> Result<Field, Failure> {
+    /// Reads an expression, and keeps its items.
+    pub fn expression(&mut self, draft: &mut Draft, word: TextWord<'_>) -> Result<Span, Failure> {
         self.fill(word)?;
         let count = judge(self.field.as_slice(), word.place)?;
         draft.items.claim(count, word.place)?;
-        let items = if count == 1 {
-            self.only_item(draft, word.place)?
-        } else {
-            self.all_items(draft, count, word.place)?
-        };
-        Ok(Field {
-            items,
-            place: word.place,
-        })
-    }
-
-    /// The item of a field that has one.
-    fn only_item(&self, draft: &mut Draft, place: usize) -> Result<Items<Name>, Failure> {
-        let only = item(self.field.as_slice(), place)?;
-        if let Some(named) = reference(&only, place) {
-            draft.references.push(named)?;
-        }
-        Ok(Items::One(only))
-    }
-
-    /// The items of a field that has so many, in just the room that they need.
-    fn all_items(
-        &self,
-        draft: &mut Draft,
-        count: usize,
-        place: usize,
-    ) -> Result<Items<Name>, Failure> {
-        let mut items = Vec::with_capacity(self.heap, count)?;
-        keep(self.field.as_slice(), place, &mut items)?;
-        let named = items.iter().filter_map(|item| reference(item, place));
+        let start = draft.kept.len();
+        keep(self.field.as_slice(), word.place, &mut draft.kept)?;
+        let end = draft.kept.len();
+        let items = marked(draft.kept.as_slice(), Span { start, end });
+        let named = items.iter().filter_map(|item| reference(item, word.place));
         draft.references.extend(named)?;
-        Ok(Items::More(items))
+        Ok(Span { start, end })
     }
 
     /// Reads one part and keeps it.
@@ -208,7 +183,7 @@ impl<'t> PartReader<'t> {
         &mut self,
         draft: &mut Draft,
         mut words: PartWords<'_, '_>,
-    ) -> Result<Body<Field>, Failure> {
+    ) -> Result<DraftedBody, Failure> {
         let function = self.expression(draft, words.take()?)?;
         let left = self.expression(draft, words.take()?)?;
         let right = self.expression(draft, words.take()?)?;
@@ -225,30 +200,29 @@ impl<'t> PartReader<'t> {
         &mut self,
         draft: &mut Draft,
         mut words: PartWords<'_, '_>,
-    ) -> Result<Body<Field>, Failure> {
+    ) -> Result<DraftedBody, Failure> {
         let select = self.expression(draft, words.take()?)?;
         if words.words.is_empty() {
             return Err(words.next.lacks(Refusal::OutOfRange).into());
         }
-        let mut cases = Vec::new(self.heap);
+        let start = draft.cases.len();
         for word in words.words {
-            self.case(draft, *word, &mut cases)?;
+            self.case(draft, start, *word)?;
         }
-        Ok(Body::Selector { select, cases })
+        let end = draft.cases.len();
+        Ok(Body::Selector {
+            select,
+            cases: Span { start, end },
+        })
     }
 
-    /// One more case of a selector.
-    fn case(
-        &mut self,
-        draft: &mut Draft,
-        word: TextWord<'_>,
-        cases: &mut Vec<Field>,
-    ) -> Result<(), Failure> {
+    /// One more case of the selector whose cases begin at `start`.
+    fn case(&mut self, draft: &mut Draft, start: usize, word: TextWord<'_>) -> Result<(), Failure> {
         let case = self.expression(draft, word)?;
-        if cases.len() >= MOST_CASES {
+        if draft.cases.len().saturating_sub(start) >= MOST_CASES {
             return Err(Refusal::OverLimit.at(word.place).into());
         }
-        cases.push(case)?;
+        draft.cases.push(case)?;
         Ok(())
     }
 
@@ -257,7 +231,7 @@ impl<'t> PartReader<'t> {
         &mut self,
         draft: &mut Draft,
         mut words: PartWords<'_, '_>,
-    ) -> Result<Body<Field>, Failure> {
+    ) -> Result<DraftedBody, Failure> {
         let address = self.expression(draft, words.take()?)?;
         let data = self.expression(draft, words.take()?)?;
         let operation = self.expression(draft, words.take()?)?;
@@ -276,23 +250,27 @@ impl<'t> PartReader<'t> {
         &mut self,
         draft: &mut Draft,
         words: &mut PartWords<'_, '_>,
-    ) -> Result<Vec<Word>, Failure> {
+    ) -> Result<Span, Failure> {
         let word = words.take()?;
         self.fill(word)?;
         let size = size_of(self.field.as_slice(), word.place)?;
         draft.words.check(size.count(), word.place)?;
+        let start = draft.first.len();
         match size {
             Size::Zeros(count) => {
                 words.end()?;
                 draft.words.claim(count, word.place)?;
-                Ok(vec![in self.heap; Word::zero(); count]?)
+                draft
+                    .first
+                    .resize(start.saturating_add(count), Word::zero())?;
             }
             Size::Given(count) => {
-                let first = self.given(draft, words, count)?;
+                self.given(draft, words, count)?;
                 words.end()?;
-                Ok(first)
             }
         }
+        let end = draft.first.len();
+        Ok(Span { start, end })
     }
 
     /// So many words that stand in the text.
@@ -301,16 +279,15 @@ impl<'t> PartReader<'t> {
         draft: &mut Draft,
         words: &mut PartWords<'_, '_>,
         count: usize,
-    ) -> Result<Vec<Word>, Failure> {
-        let mut first = Vec::new(self.heap);
+    ) -> Result<(), Failure> {
         // The loop counts words that may be missing, and walks no list.
         for _ in 0..count {
             let word = words.take()?;
             self.fill(word)?;
             let value = number(self.field.as_slice(), word.place)?;
             draft.words.claim(1, word.place)?;
-            first.push(value)?;
+            draft.first.push(value)?;
         }
-        Ok(first)
+        Ok(())
     }
 }
