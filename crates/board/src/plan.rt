@@ -1,12 +1,12 @@
 //! What is about to be done in a step, from the values that are shown before it.
 use circuit::parts::{Body, Part};
-use circuit::values::worth;
 use ports::memory::Memory;
 use refusal::kinds::{Fault, Refusal};
 use word::value::Word;
 
 /// Plans what a memory does by the values of the expressions of its part.
 fn plan_by(memory: &mut Memory, part: &Part, shown: &[Word]) -> Result<(), Fault> {
+    let joined = part.joined.as_slice();
     match &part.body {
         Body::Memory {
             address,
@@ -14,9 +14,9 @@ fn plan_by(memory: &mut Memory, part: &Part, shown: &[Word]) -> Result<(), Fault
             operation,
             ..
         } => memory.plan(
-            worth(address.as_slice(), shown),
-            worth(data.as_slice(), shown),
-            worth(operation.as_slice(), shown),
+            address.worth(joined, shown),
+            data.worth(joined, shown),
+            operation.worth(joined, shown),
         ),
         Body::Alu { .. } | Body::Selector { .. } => Ok(()),
     }

@@ -9,13 +9,14 @@ use Rattle.verdict.specs.Parts.{Body, alu, selector, memory}
 use Rattle.verdict.specs.Circuit as verdict
 use Rattle.circuit.specs.declared.parts.Item.{Item as StoredItem}
 use Rattle.circuit.specs.declared.parts.Item.TheVariants.{Constant, Bits}
-use Rattle.circuit.specs.declared.parts.Items.{Items as StoredItems}
-use Rattle.circuit.specs.declared.parts.Items.TheVariants.{One, More}
+use Rattle.circuit.specs.declared.parts.Expression.{Expression as StoredExpression}
+use Rattle.circuit.specs.declared.parts.Expression.TheVariants.{One, More}
 use Rattle.circuit.specs.declared.parts.Body.{Body as StoredBody}
 use Rattle.circuit.specs.declared.parts.Body.TheVariants.{Alu, Selector, Memory}
 use Rattle.circuit.specs.declared.parts.Listed.{Listed}
 use Rattle.circuit.specs.declared.parts.Part.{Part}
 use Rattle.circuit.specs.declared.wiring.Circuit.{Circuit}
+use Rattle.circuit.specs.Rows.{row}
 
 -- a constant by its value and its width, or bits of the part that R tells, from the first through the last
 abbrev pub item_by : {R S : Type 0} → (R → S) → StoredItem R → Item S
@@ -27,14 +28,10 @@ abbrev pub width_of : {R : Type 0} → StoredItem R → ℕ
 width_of (Constant word width) = width.bits
 width_of (Bits r range) = suc range.last - range.first
 
--- the items in storage, the highest first
-abbrev pub listed : {R : Type 0} → StoredItems R → List (StoredItem R)
-listed (One i) = i ∷ []
-listed (More is) = vec_items is
-
--- an expression in storage
-abbrev pub StoredExpression : Type 0
-StoredExpression = StoredItems ℕ
+-- the items of an expression in storage, the highest first, where these are those of its part's expressions that have several
+abbrev pub listed : List (StoredItem ℕ) → StoredExpression → List (StoredItem ℕ)
+listed joined (One i) = i ∷ []
+listed joined (More span) = row joined span
 
 abbrev pub values_of : List Word → List ℕ
 values_of ws = map (λ (w : Word). w.value) ws
@@ -50,12 +47,12 @@ body_by read (Alu f l r) = alu (read f) (read l) (read r)
 body_by read (Selector s cs) = selector (read s) (map read (vec_items cs))
 
 -- the expression of items that tell their parts by rank
-abbrev pub expression_of : StoredExpression → Expression ℕ
-expression_of e = map (item_by (λ r. r)) (listed e)
+abbrev pub expression_of : List (StoredItem ℕ) → StoredExpression → Expression ℕ
+expression_of joined e = map (item_by (λ r. r)) (listed joined e)
 
 -- a part by its name and what it is
 abbrev pub part_of : Part → Bytes × Body ℕ
-part_of p = (name_bytes p.name, body_by expression_of p.body)
+part_of p = (name_bytes p.name, body_by (expression_of (vec_items p.joined)) p.body)
 
 -- the name of the part of a rank
 abbrev pub name_at : List Part → ℕ → Bytes

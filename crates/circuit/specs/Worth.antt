@@ -1,5 +1,5 @@
 -- What expressions are worth and which selectors are astray, by the words that the parts show.
-use Rattle.std.specs.Prelude.{ℕ, ◌%◌, ◌^◌, Bool, false, List, map, length, nat_le, slice_index}
+use Rattle.std.specs.Prelude.{ℕ, ◌%◌, ◌^◌, Bool, false, List, map, length, nat_le, slice_index, vec_items}
 use Rattle.word.specs.declared.value.Word.{Word}
 use Rattle.verdict.specs.Items.{Expression}
 use Rattle.verdict.specs.Parts.{Body, alu, selector, memory}
@@ -27,4 +27,4 @@ astray shown (alu f l r) = false
 astray shown (selector s cs) = nat_le (length cs) (worth_of shown s)
 
 abbrev pub is_astray : List Word → Part → Bool
-is_astray ws p = astray (shown_by ws) (body_by expression_of p.body)
+is_astray ws p = astray (shown_by ws) (body_by (expression_of (vec_items p.joined)) p.body)

@@ -1,6 +1,8 @@
 //! What a circuit is made of.
 ghost use Rattle.std.specs.Prelude.{◌≡◌};
+ghost use Rattle.circuit.specs.Meaning.{listed};
 
+use crate::wiring::marked;
 use scan::names::Name;
 use std::slice;
 use word::range::Range;
@@ -16,26 +18,28 @@ pub enum Item<R> {
     Bits(R, Range),
 }
 
-/// The items of an expression, the highest first. Most expressions have one, which needs no list.
-#[derive(Clone, Drop)]
-pub enum Items<R> {
-    One(Item<R>),
-    More(Vec<Item<R>>),
+/// Neighbours in a list: those from `start` up to `end`, which is left out.
+#[derive(Clone, Copy, Debug, PartialEq, Eq)]
+pub struct Span {
+    pub start: usize,
+    pub end: usize,
 }
 
-/// An expression on a board.
-pub type Expression = Items<usize>;
+/// An expression on a board. Most have one item; the items of another are a span of those that its part joins.
+#[derive(Clone, Copy, Debug, PartialEq, Eq)]
+pub enum Expression {
+    One(Item<usize>),
+    More(Span),
+}
 
-impl Items<usize> {
-    ghost use Rattle.circuit.specs.Meaning.{listed};
-
-    /// The items, the highest first.
-    pub fn as_slice(&self) -> &[Item<usize>]
-        ensures { result.now ≡ listed self.now }
+impl Expression {
+    /// The items, the highest first, in a part that joins these.
+    pub fn items<'p>(&'p self, joined: &'p [Item<usize>]) -> &'p [Item<usize>]
+        ensures { result.now ≡ listed joined.now self.now }
     {
         match self {
-            Items::One(item) => slice::from_ref(item),
-            Items::More(items) => items.as_slice(),
+            Expression::One(item) => slice::from_ref(item),
+            Expression::More(span) => marked(joined, *span),
         }
     }
 }
@@ -68,6 +72,8 @@ pub enum Body<E, C = Vec<E>, W = Vec<Word>> {
 #[derive(Drop)]
 pub struct Part {
     pub name: Name,
+    /// The items of the expressions that have several.
+    pub joined: Vec<Item<usize>>,
     pub body: Body<Expression>,
 }
 

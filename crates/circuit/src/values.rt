@@ -6,7 +6,7 @@ ghost use Rattle.circuit.specs.Meaning.{item_by, listed, width_of};
 ghost use Rattle.circuit.specs.Worth.{shown_by, worth, is_astray};
 
 use crate::parts::{Body, Expression, Item, Part};
-use crate::wiring::Circuit;
+use crate::wiring::{Circuit, marked};
 use word::functions::alu;
 use word::value::Word;
 use word::width::Width;
@@ -64,15 +64,23 @@ pub fn worth(items: &[Item<usize>], shown: &[Word]) -> Word
     }
 }
 
-/// The case that a selector's select field gives, unless there is no such case.
-fn chosen<'c>(
-    select: &Expression,
-    cases: &'c [Expression],
-    shown: &[Word],
-) -> Option<&'c Expression>
-    ensures { is_none result ≡ nat_le (length cases.now) (worth shown.now (listed select.now)) }
+impl Expression {
+    /// The value of the expression, in a part that joins these items.
+    pub fn worth(&self, joined: &[Item<usize>], shown: &[Word]) -> Word
+        ensures { result.value ≡ worth shown.now (listed joined.now self.now) }
+    {
+        match self {
+            Expression::One(item) => item.value(shown),
+            Expression::More(span) => worth(marked(joined, *span), shown),
+        }
+    }
+}
+
+/// The case of this number, unless there is no such case.
+fn chosen(cases: &[Expression], number: Word) -> Option<&Expression>
+    ensures { is_none result ≡ nat_le (length cases.now) number.value }
 {
-    cases.get(worth(select.as_slice(), shown).value as usize)
+    cases.get(number.value as usize)
 }
 
 impl Part {
@@ -81,13 +89,17 @@ impl Part {
         ensures { result ≡ is_astray shown.now self.now }
     {
         match &self.body {
-            Body::Selector { select, cases } => chosen(select, cases.as_slice(), shown).is_none(),
+            Body::Selector { select, cases } => {
+                let select = select.worth(self.joined.as_slice(), shown);
+                chosen(cases.as_slice(), select).is_none()
+            }
             Body::Alu { .. } | Body::Memory { .. } => false,
         }
     }
 
     /// What the part shows by its equation: a memory the word that it holds, and a selector 0 if it has no such case.
     fn value(&self, held: Word, shown: &[Word]) -> Word {
+        let joined = self.joined.as_slice();
         match &self.body {
             Body::Memory { .. } => held,
             Body::Alu {
@@ -95,14 +107,16 @@ impl Part {
                 left,
                 right,
             } => alu(
-                worth(function.as_slice(), shown),
-                worth(left.as_slice(), shown),
-                worth(right.as_slice(), shown),
+                function.worth(joined, shown),
+                left.worth(joined, shown),
+                right.worth(joined, shown),
             ),
-            Body::Selector { select, cases } => match chosen(select, cases.as_slice(), shown) {
-                Some(case) => worth(case.as_slice(), shown),
-                None => Word::zero(),
-            },
+            Body::Selector { select, cases } => {
+                match chosen(cases.as_slice(), select.worth(joined, shown)) {
+                    Some(case) => case.worth(joined, shown),
+                    None => Word::zero(),
+                }
+            }
         }
     }
 }

@@ -1,5 +1,8 @@
 //! The circuit of a drawing.
-use crate::parts::{Listed, Part};
+ghost use Rattle.std.specs.Prelude.{◌≡◌};
+ghost use Rattle.circuit.specs.Rows.{row};
+
+use crate::parts::{Listed, Part, Span};
 use std::alloc::Global;
 
 /// The listed names in list order, and the parts by rank.
@@ -22,4 +25,13 @@ impl Circuit {
             order: Vec::new(heap),
         }
     }
+}
+
+/// What a span marks in a list, as far as the list goes.
+pub fn marked<T>(all: &[T], at: Span) -> &[T]
+    ensures { result.now ≡ row all.now at }
+{
+    let end = at.end.min(all.len());
+    let start = at.start.min(end);
+    &all[start..end]
 }

@@ -8,13 +8,13 @@ use Rattle.verdict.specs.Items.{Expression}
 use Rattle.verdict.specs.Parts.{Part, Body, alu, selector, memory}
 use Rattle.verdict.specs.Limits.{Taken}
 use Rattle.circuit.specs.declared.parts.Item.{Item}
+use Rattle.circuit.specs.declared.parts.Span.{Span}
+use Rattle.circuit.specs.Rows.{row}
 use Rattle.circuit.specs.declared.parts.Body.{Body as StoredBody}
 use Rattle.circuit.specs.declared.parts.Body.TheVariants.{Alu, Selector, Memory}
 use Rattle.circuit.specs.Meaning.{item_by, values_of}
 use Rattle.draft.specs.declared.drafts.Draft.{Draft}
 use Rattle.draft.specs.declared.drafts.Drafted.{Drafted}
-use Rattle.draft.specs.declared.drafts.Span.{Span}
-use Rattle.draft.specs.Rows.{row}
 use Rattle.draft.specs.declared.drafts.Reference.{Reference}
 
 -- the expression that a span of the items is

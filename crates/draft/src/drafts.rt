@@ -1,9 +1,8 @@
 //! The parts that were read so far.
 ghost use Rattle.std.specs.Prelude.{◌≡◌, ◌≤◌};
 ghost use Rattle.scan.specs.NameBytes.{name_bytes};
-ghost use Rattle.draft.specs.Rows.{row};
 
-use circuit::parts::{Body, Item};
+use circuit::parts::{Body, Item, Span};
 use names::{Named, Placed, new_name};
 use refusal::kinds::{Fault, Refusal};
 use scan::names::Name;
@@ -15,22 +14,6 @@ pub const MOST_WORDS: usize = 4096;
 
 /// How many items a drawing may have.
 pub(crate) const MOST_ITEMS: usize = 2048;
-
-/// Neighbours in a list: those from `start` up to `end`, which is left out.
-#[derive(Clone, Copy, Debug, PartialEq, Eq)]
-pub struct Span {
-    pub start: usize,
-    pub end: usize,
-}
-
-/// What a span marks in a list, as far as the list goes.
-pub fn marked<T>(all: &[T], at: Span) -> &[T]
-    ensures { result.now ≡ row all.now at }
-{
-    let end = at.end.min(all.len());
-    let start = at.start.min(end);
-    &all[start..end]
-}
 
 /// A part's name in an expression, and the place of the field that it stands in.
 #[derive(Clone, Copy, Debug, PartialEq, Eq)]

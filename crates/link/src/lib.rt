@@ -9,9 +9,9 @@ ghost use Rattle.verdict.specs.Verdict.{check_among};
 ghost use Rattle.names.specs.Checks.{told};
 ghost use Rattle.draft.specs.declared.drafts.Reference.{Reference};
 
-use circuit::parts::{Body, Expression, Item, Items, Listed, Part};
-use circuit::wiring::Circuit;
-use draft::drafts::{Draft, Drafted, Reference, Span, marked};
+use circuit::parts::{Body, Expression, Item, Listed, Part, Span};
+use circuit::wiring::{Circuit, marked};
+use draft::drafts::{Draft, Drafted, Reference};
 use draft::entry::Entry;
 use links::arcs::Links;
 use names::{Named, check_named, find, ordered, sorted};
@@ -41,24 +41,44 @@ fn ranked_item<T: Named>(item: &Item<Name>, parts: &[T]) -> Item<usize> {
     }
 }
 
-/// An expression that tells parts by rank, in just the room that it needs.
-fn ranked(heap: Global, items: &[Item<Name>], parts: &[Drafted]) -> Result<Expression, AllocError> {
-    if let [only] = items {
-        return Ok(Items::One(ranked_item(only, parts)));
+/// Puts items that tell parts by rank behind those that are there, and answers which they are.
+fn add_ranked(
+    joined: &mut Vec<Item<usize>>,
+    items: &[Item<Name>],
+    parts: &[Drafted],
+) -> Result<Span, AllocError> {
+    let start = joined.len();
+    // Mostly a few, for which one call of `extend` takes more than each push.
+    for item in items {
+        joined.push(ranked_item(item, parts))?;
     }
-    let mut ranked = Vec::with_capacity(heap, items.len())?;
-    ranked.extend(items.iter().map(|item| ranked_item(item, parts)))?;
-    Ok(Items::More(ranked))
+    let end = joined.len();
+    Ok(Span { start, end })
 }
 
-/// What a part of the draft is, with parts told by rank.
+/// An expression of these items that tells parts by rank. Several items go behind those that its part joins already.
+// Most fields have one item, for which a call would take more than what it does.
+#[inline]
+fn ranked(
+    joined: &mut Vec<Item<usize>>,
+    items: &[Item<Name>],
+    parts: &[Drafted],
+) -> Result<Expression, AllocError> {
+    match items {
+        [only] => Ok(Expression::One(ranked_item(only, parts))),
+        _ => add_ranked(joined, items, parts).map(Expression::More),
+    }
+}
+
+/// What a part of the draft is, with parts told by rank, and the items that it joins.
 fn ranked_body(
     heap: Global,
     draft: &Draft,
     body: Body<Span, Span, Span>,
     parts: &[Drafted],
+    joined: &mut Vec<Item<usize>>,
 ) -> Result<Body<Expression>, AllocError> {
-    let expression = |at: Span| ranked(heap, marked(draft.kept.as_slice(), at), parts);
+    let mut expression = |at: Span| ranked(joined, marked(draft.kept.as_slice(), at), parts);
     match body {
         Body::Memory {
             address,
@@ -80,13 +100,16 @@ fn ranked_body(
             left: expression(left)?,
             right: expression(right)?,
         }),
-        Body::Selector { select, cases } => Ok(Body::Selector {
-            select: expression(select)?,
-            cases: marked(draft.cases.as_slice(), cases)
-                .iter()
-                .map(|case| ranked(heap, marked(draft.kept.as_slice(), *case), parts))
-                .try_collect(heap)?,
-        }),
+        Body::Selector { select, cases } => {
+            let select = expression(select)?;
+            let named = marked(draft.cases.as_slice(), cases);
+            let mut cases = Vec::with_capacity(heap, named.len())?;
+            for case in named {
+                let items = marked(draft.kept.as_slice(), *case);
+                cases.push(ranked(joined, items, parts)?)?;
+            }
+            Ok(Body::Selector { select, cases })
+        }
     }
 }
 
@@ -97,9 +120,12 @@ fn ranked_part(
     part: &Drafted,
     parts: &[Drafted],
 ) -> Result<Part, AllocError> {
+    let mut joined = Vec::new(heap);
+    let body = ranked_body(heap, draft, part.body, parts, &mut joined)?;
     Ok(Part {
         name: part.name,
-        body: ranked_body(heap, draft, part.body, parts)?,
+        joined,
+        body,
     })
 }
 
@@ -127,8 +153,13 @@ pub fn ranked_list<T: Named>(
 }
 
 /// Lets the part `from` need the parts that an expression reads.
-fn link_expression(links: &mut Links, from: usize, expression: &Expression) {
-    for item in expression.as_slice() {
+fn link_expression(
+    links: &mut Links,
+    from: usize,
+    joined: &[Item<usize>],
+    expression: &Expression,
+) {
+    for item in expression.items(joined) {
         if let Item::Bits(rank, _) = item {
             links.add(from, *rank);
         }
@@ -137,6 +168,7 @@ fn link_expression(links: &mut Links, from: usize, expression: &Expression) {
 
 /// Lets the part `from` need the parts that it reads. A memory shows the word that it holds, so it needs none.
 fn link_part(links: &mut Links, from: usize, part: &Part) {
+    let joined = part.joined.as_slice();
     match &part.body {
         Body::Memory { .. } => {}
         Body::Alu {
@@ -144,14 +176,14 @@ fn link_part(links: &mut Links, from: usize, part: &Part) {
             left,
             right,
         } => {
-            link_expression(links, from, function);
-            link_expression(links, from, left);
-            link_expression(links, from, right);
+            link_expression(links, from, joined, function);
+            link_expression(links, from, joined, left);
+            link_expression(links, from, joined, right);
         }
         Body::Selector { select, cases } => {
-            link_expression(links, from, select);
+            link_expression(links, from, joined, select);
             for case in cases.as_slice() {
-                link_expression(links, from, case);
+                link_expression(links, from, joined, case);
             }
         }
     }

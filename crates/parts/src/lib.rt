@@ -4,8 +4,9 @@
 ghost use Rattle.std.specs.Prelude.{◌≡◌};
 ghost use Rattle.macros.specs.Tables.{table_of};
 
-use circuit::parts::{Body, Item};
-use draft::drafts::{Draft, Drafted, MOST_WORDS, Reference, Span, marked};
+use circuit::parts::{Body, Item, Span};
+use circuit::wiring::marked;
+use draft::drafts::{Draft, Drafted, MOST_WORDS, Reference};
 use items::expression::{judge, keep};
 use macros::table::Macros;
 use numbers::number;
@@ -153,9 +154,12 @@ impl<'t> PartReader<'t> {
         let start = draft.kept.len();
         keep(self.field.as_slice(), word.place, &mut draft.kept)?;
         let end = draft.kept.len();
-        let items = marked(draft.kept.as_slice(), Span { start, end });
-        let named = items.iter().filter_map(|item| reference(item, word.place));
-        draft.references.extend(named)?;
+        // Most fields have one item, for which a call of `extend` takes more than the push.
+        for item in marked(draft.kept.as_slice(), Span { start, end }) {
+            if let Some(reference) = reference(item, word.place) {
+                draft.references.push(reference)?;
+            }
+        }
         Ok(Span { start, end })
     }
 
