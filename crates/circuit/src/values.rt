@@ -66,6 +66,8 @@ pub fn worth(items: &[Item<usize>], shown: &[Word]) -> Word
 
 impl Expression {
     /// The value of the expression, in a part that joins these items.
+    // One item is read where it stands: in a step a call of its own, or a slice of one, would take more than that.
+    #[inline(always)]
     pub fn worth(&self, joined: &[Item<usize>], shown: &[Word]) -> Word
         ensures { result.value ≡ worth shown.now (listed joined.now self.now) }
     {

@@ -105,6 +105,7 @@ fn ranked_body(
             let named = marked(draft.cases.as_slice(), cases);
             let mut cases = Vec::with_capacity(heap, named.len())?;
             for case in named {
+                // Not by `expression`, whose call would take more than what it does for one item.
                 let items = marked(draft.kept.as_slice(), *case);
                 cases.push(ranked(joined, items, parts)?)?;
             }
@@ -122,6 +123,8 @@ fn ranked_part(
 ) -> Result<Part, AllocError> {
     let mut joined = Vec::new(heap);
     let body = ranked_body(heap, draft, part.body, parts, &mut joined)?;
+    // The part keeps no room for items that will not come.
+    joined.shrink_to_fit();
     Ok(Part {
         name: part.name,
         joined,
